@@ -1,0 +1,116 @@
+-- From the function on lists to the relation.
+use Rattle.std.proofs.Common.{◌≡◌, ℕ, ◌+◌, ◌<◌, ◌≤◌, List, [], ◌∷◌, ◌++◌, length, drop, sym, refl, ap, ◌∙◌, subst, arith, append_assoc}
+use Rattle.std.specs.Prelude.{Result, Ok, Err, IfOk, IfErr}
+use Rattle.asm_syntax.specs.declared.fault.Fault.{Fault}
+use Rattle.asm_syntax.specs.declared.fault.Fault.TheVariants as faults
+use Rattle.asm_syntax.specs.declared.token.Token.{Token}
+use Rattle.asm_syntax.specs.declared.token.TokenKind.{TokenKind}
+use Rattle.asm_syntax.specs.Lexes.{Stop, End, At, Lexes, token_at}
+use Rattle.asm_lex_theory.specs.declared.Front.{Front}
+use Rattle.asm_lex_theory.specs.declared.Front.TheVariants.{Gap, Taken, Wrong}
+use Rattle.asm_lex_theory.specs.Scan.{front_on, Lexed, with_token, lexed_from, after_tokens}
+use Rattle.asm_lex_theory.proofs.Whole.{lexes_is, reads}
+use Rattle.asm_lex_theory.proofs.Places.{gap_at, token_next, refused_at, ended_at}
+use Rattle.asm_lex.specs.declared.LexRefusal.{LexRefusal}
+use Rattle.asm_lex.specs.declared.LexRefusal.TheVariants.{TextTooLong, BadByte, OpenComment, OpenString, NumberTooLarge, NoMemory}
+use Rattle.asm_lex.specs.Answers.{most_bytes, AreTokens, StopsAt, IsFirst, IsRefusal, Answers, Tells, Gives}
+
+-- ---- steps of the loop
+
+pub before_token : (ts : List Token) (t : Token) (l : Lexed) → after_tokens ts (with_token t l) ≡ after_tokens (ts ++ t ∷ []) l
+before_token ts t l = ap (λ (x : List Token). (x, l.1)) (sym (append_assoc ts (t ∷ []) l.0))
+
+pub gap_keeps : (text : List ℕ) (all : Lexed) (ts : List Token) (at n : ℕ) → all ≡ after_tokens ts (lexed_from (drop at text) 0 at) → at < length text → Gap n ≡ front_on (drop at text)
+    → all ≡ after_tokens ts (lexed_from (drop (at + n) text) 0 (at + n))
+gap_keeps text all ts at n e h f = e ∙ ap (after_tokens ts) (gap_at text at n h f)
+
+pub token_keeps : (text : List ℕ) (all : Lexed) (ts : List Token) (at n : ℕ) (k : TokenKind) → all ≡ after_tokens ts (lexed_from (drop at text) 0 at) → at < length text → Taken k n ≡ front_on (drop at text)
+    → all ≡ after_tokens (ts ++ token_at k at (at + n) ∷ []) (lexed_from (drop (at + n) text) 0 (at + n))
+token_keeps text all ts at n k e h f = e ∙ ap (after_tokens ts) (token_next text at n k h f) ∙ before_token ts _ _
+
+pub wrong_tells : (text : List ℕ) (all : Lexed) (ts : List Token) (at : ℕ) (f : Fault) (r : LexRefusal) → all ≡ after_tokens ts (lexed_from (drop at text) 0 at) → at < length text → Wrong f ≡ front_on (drop at text)
+    → Tells r (At f at) → Tells r all.1
+wrong_tells text all ts at f r e h w t = subst (Tells r) (sym (ap (λ (l : Lexed). l.1) (e ∙ ap (after_tokens ts) (refused_at text at f h w)))) t
+
+pub end_gives : (text : List ℕ) (all : Lexed) (ts : List Token) (at : ℕ) → all ≡ after_tokens ts (lexed_from (drop at text) 0 at) → length text ≤ at → all ≡ (ts, End)
+end_gives text all ts at e h = e ∙ ap (after_tokens ts) (ended_at text at h) ∙ ap (λ (x : List Token). (x, End)) (nothing_more ts)
+  where
+    nothing_more : (ts : List Token) → ts ++ [] ≡ ts
+    nothing_more [] = refl
+    nothing_more (t ∷ ts) = ap (λ x. t ∷ x) (nothing_more ts)
+
+-- ---- the answer
+
+pub tokens_law : (text : List ℕ) (r : Result (List Token) LexRefusal) → length text ≤ most_bytes → Gives r (lexed_from text 0 0) → IfOk r (λ ts. AreTokens text ts)
+tokens_law text (Ok ts) h g = (h, subst (λ (l : Lexed). Lexes 0 text l.0 l.1) g (reads text 0))
+tokens_law text (Err e) h g = tt
+
+same_stop : (l : Lexed) (s t : Stop) (ts : List Token) → l.1 ≡ s → l ≡ (ts, t) → s ≡ t
+same_stop l s t ts e f = sym e ∙ ap (λ (x : Lexed). x.1) f
+
+pub only_law : (text : List ℕ) (r : Result (List Token) LexRefusal) (ts : List Token) → Gives r (lexed_from text 0 0) → AreTokens text ts → Answers r (Ok ts)
+only_law text (Ok us) ts g a = ap (λ (l : Lexed). Ok l.0) (sym g ∙ lexes_is 0 text ts End a.1)
+only_law text (Err NoMemory) ts g a = tt
+only_law text (Err (TextTooLong n)) ts g a = absurd g
+only_law text (Err (BadByte n)) ts g a = absurd (let e = same_stop _ _ _ ts g (lexes_is 0 text ts End a.1) in cc)
+only_law text (Err (OpenComment n)) ts g a = absurd (let e = same_stop _ _ _ ts g (lexes_is 0 text ts End a.1) in cc)
+only_law text (Err (OpenString n)) ts g a = absurd (let e = same_stop _ _ _ ts g (lexes_is 0 text ts End a.1) in cc)
+only_law text (Err (NumberTooLarge n)) ts g a = absurd (let e = same_stop _ _ _ ts g (lexes_is 0 text ts End a.1) in cc)
+
+-- the refusal of a fault
+abbrev pub refusal_of : Fault → ℕ → LexRefusal
+refusal_of faults.OpenComment at = OpenComment at
+refusal_of faults.OpenString at = OpenString at
+refusal_of faults.NumberTooLarge at = NumberTooLarge at
+refusal_of faults.BadByte at = BadByte at
+
+fault_of : Stop → Fault
+fault_of End = faults.BadByte
+fault_of (At f at) = f
+
+place_of : Stop → ℕ
+place_of End = 0
+place_of (At f at) = at
+
+pub stop_law : (text : List ℕ) (r : Result (List Token) LexRefusal) (ts : List Token) (f : Fault) (at : ℕ) → Gives r (lexed_from text 0 0) → StopsAt text ts f at → Answers r (Err (refusal_of f at))
+unfolding fault_of place_of
+stop_law text (Ok us) ts f at g a = absurd (let e : At f at ≡ End = sym (ap (λ (x : Lexed). x.1) (lexes_is 0 text ts (At f at) a.1)) ∙ ap (λ (x : Lexed). x.1) g in cc)
+stop_law text (Err NoMemory) ts f at g a = tt
+stop_law text (Err (TextTooLong n)) ts f at g a = absurd g
+stop_law text (Err (BadByte n)) ts f at g a = let e = same_stop _ _ _ ts g (lexes_is 0 text ts (At f at) a.1) in ap (λ (s : Stop). Err (refusal_of (fault_of s) (place_of s))) e
+stop_law text (Err (OpenComment n)) ts f at g a = let e = same_stop _ _ _ ts g (lexes_is 0 text ts (At f at) a.1) in ap (λ (s : Stop). Err (refusal_of (fault_of s) (place_of s))) e
+stop_law text (Err (OpenString n)) ts f at g a = let e = same_stop _ _ _ ts g (lexes_is 0 text ts (At f at) a.1) in ap (λ (s : Stop). Err (refusal_of (fault_of s) (place_of s))) e
+stop_law text (Err (NumberTooLarge n)) ts f at g a = let e = same_stop _ _ _ ts g (lexes_is 0 text ts (At f at) a.1) in ap (λ (s : Stop). Err (refusal_of (fault_of s) (place_of s))) e
+
+pub first_law : (text : List ℕ) (r : Result (List Token) LexRefusal) (ts : List Token) (e : LexRefusal) → length text ≤ most_bytes → Gives r (lexed_from text 0 0) → IsFirst text ts e → Answers r (Err e)
+first_law text r ts NoMemory h g a = absurd a
+first_law text r ts (TextTooLong n) h g a = absurd (let long = a.0 in omega arith)
+first_law text r ts (BadByte at) h g a = stop_law text r ts faults.BadByte at g a
+first_law text r ts (OpenComment at) h g a = stop_law text r ts faults.OpenComment at g a
+first_law text r ts (OpenString at) h g a = stop_law text r ts faults.OpenString at g a
+first_law text r ts (NumberTooLarge at) h g a = stop_law text r ts faults.NumberTooLarge at g a
+
+-- the same without a reading of the text: one that is too long
+pub long_tokens : (text : List ℕ) (n : ℕ) (ts : List Token) → most_bytes < length text → AreTokens text ts → Answers (Err (TextTooLong n)) (Ok ts)
+long_tokens text n ts h a = absurd (let short = a.0 in omega arith)
+
+pub long_first : (text : List ℕ) (n : ℕ) (ts : List Token) (e : LexRefusal) → most_bytes < length text → n ≡ length text → IsFirst text ts e → Answers (Err (TextTooLong n)) (Err e)
+long_first text n ts NoMemory h l a = absurd a
+long_first text n ts (TextTooLong m) h l a = ap (λ (x : ℕ). Err (TextTooLong x)) (l ∙ sym a.1)
+long_first text n ts (BadByte at) h l a = absurd (let short = a.0 in omega arith)
+long_first text n ts (OpenComment at) h l a = absurd (let short = a.0 in omega arith)
+long_first text n ts (OpenString at) h l a = absurd (let short = a.0 in omega arith)
+long_first text n ts (NumberTooLarge at) h l a = absurd (let short = a.0 in omega arith)
+
+pub refused_law : (text : List ℕ) (r : Result (List Token) LexRefusal) → length text ≤ most_bytes → Gives r (lexed_from text 0 0) → IfErr r (λ e. IsRefusal text e)
+refused_law text (Ok ts) h g = tt
+refused_law text (Err NoMemory) h g = tt
+refused_law text (Err (TextTooLong n)) h g = absurd g
+refused_law text (Err (BadByte n)) h g = ((lexed_from text 0 0).0, (h, subst (λ (s : Stop). Lexes 0 text (lexed_from text 0 0).0 s) g (reads text 0)))
+refused_law text (Err (OpenComment n)) h g = ((lexed_from text 0 0).0, (h, subst (λ (s : Stop). Lexes 0 text (lexed_from text 0 0).0 s) g (reads text 0)))
+refused_law text (Err (OpenString n)) h g = ((lexed_from text 0 0).0, (h, subst (λ (s : Stop). Lexes 0 text (lexed_from text 0 0).0 s) g (reads text 0)))
+refused_law text (Err (NumberTooLarge n)) h g = ((lexed_from text 0 0).0, (h, subst (λ (s : Stop). Lexes 0 text (lexed_from text 0 0).0 s) g (reads text 0)))
+
+-- a text is read in one way
+pub one_way : (text : List ℕ) (ts us : List Token) (s t : Stop) → Lexes 0 text ts s → Lexes 0 text us t → (ts ≡ us) × (s ≡ t)
+one_way text ts us s t a b = let e = sym (lexes_is 0 text ts s a) ∙ lexes_is 0 text us t b in (ap (λ (l : Lexed). l.0) e, ap (λ (l : Lexed). l.1) e)

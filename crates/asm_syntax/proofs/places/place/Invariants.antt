@@ -1,0 +1,12 @@
+use Rattle.std.proofs.Common.{◌≡◌, ℕ, ◌+◌, ◌≤◌, take}
+use Rattle.std.specs.Prelude.{◌==◌, not, count_by}
+use Rattle.std.specs.List.{suffix_len}
+use Rattle.asm_syntax.proofs.places.place.Given as goal
+
+abbrev pub invariant-loop-i : goal.invariant-loop-i
+invariant-loop-i l = record {
+  line : l.line ≡ 1 + count_by (λ b. b == 10) (take l.i l.bytes);
+  column : l.column ≡ 1 + suffix_len (λ b. not (b == 10)) (take l.i l.bytes);
+  lines : l.line ≤ 1 + l.i;
+  columns : l.column ≤ 1 + l.i;
+}

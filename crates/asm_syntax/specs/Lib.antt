@@ -1,0 +1,6 @@
+pub mod Bytes
+pub mod Words
+pub mod Lexes
+pub mod Marks
+pub mod Grammar
+pub mod Texts

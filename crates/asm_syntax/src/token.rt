@@ -1,0 +1,63 @@
+//! Tokens.
+ghost use Rattle.std.specs.Prelude.{◌≡◌, IfOk};
+
+use asm_base::Text as Name;
+use std::alloc::{AllocError, Global};
+
+/// From the first byte of a text to the one behind the last, both counted from the text's start.
+#[derive(Clone, Copy, Debug, PartialEq, Eq)]
+pub struct Span {
+    pub start: u32,
+    pub end: u32,
+}
+
+/// What a token is. The name is the token's text: for a `Var` without its `$`, and for a string
+/// without its quotes.
+#[derive(Debug, Drop)]
+pub enum TokenKind {
+    Id(Name),
+    Var(Name),
+    /// From 0 to 2^127 - 1.
+    Number(i128),
+    Chars(Name),
+    Keyword(Name),
+    /// A word of the language's origin that this language leaves out.
+    Refused(Name),
+    Symbol(Name),
+}
+
+impl TokenKind {
+    /// An equal kind.
+    pub fn copy(&self, alloc: Global) -> Result<TokenKind, AllocError>
+        ensures { IfOk result (λ kind. kind ≡ self.now) }
+    {
+        match self {
+            TokenKind::Id(name) => Ok(TokenKind::Id(name.copy(alloc)?)),
+            TokenKind::Var(name) => Ok(TokenKind::Var(name.copy(alloc)?)),
+            TokenKind::Number(number) => Ok(TokenKind::Number(*number)),
+            TokenKind::Chars(name) => Ok(TokenKind::Chars(name.copy(alloc)?)),
+            TokenKind::Keyword(name) => Ok(TokenKind::Keyword(name.copy(alloc)?)),
+            TokenKind::Refused(name) => Ok(TokenKind::Refused(name.copy(alloc)?)),
+            TokenKind::Symbol(name) => Ok(TokenKind::Symbol(name.copy(alloc)?)),
+        }
+    }
+}
+
+/// A token and where it stands in its text.
+#[derive(Debug, Drop)]
+pub struct Token {
+    pub kind: TokenKind,
+    pub span: Span,
+}
+
+impl Token {
+    /// An equal token.
+    pub fn copy(&self, alloc: Global) -> Result<Token, AllocError>
+        ensures { IfOk result (λ token. token ≡ self.now) }
+    {
+        Ok(Token {
+            kind: self.kind.copy(alloc)?,
+            span: self.span,
+        })
+    }
+}

@@ -1,0 +1,12 @@
+pub mod Domain
+pub mod DomainLaws
+pub mod Location
+pub mod LocationLaws
+pub mod Proper
+pub mod Ranges
+pub mod State
+pub mod StateLaws
+pub mod TreeOrder
+pub mod UpdateSet
+pub mod Value
+pub mod ValueLaws
