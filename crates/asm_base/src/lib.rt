@@ -3,6 +3,8 @@
 
 mod boxed;
 mod list;
+#[cfg(test)]
+mod tests;
 mod text;
 
 pub use boxed::Boxed;

@@ -1,4 +1,4 @@
-//! A `String` that contracts see as the list of its bytes.
+//! A growing text that contracts see as the list of its bytes.
 ghost use Rattle.std.specs.Prelude.{◌≡◌, ◌+◌, ◌/◌, [], ◌++◌, length, OnOk, OnErr, IfOk, nat_eq, Some, refl};
 ghost use Rattle.std.specs.Ordering.{nat_cmp};
 ghost use Rattle.std.specs.Cmp.{partial_equiv_from_equiv};
@@ -8,7 +8,8 @@ use std::alloc::{AllocError, Global};
 use std::cmp::Ordering;
 use std::marker::Model;
 
-/// A text, ordered by its bytes.
+/// A text in UTF-8, seen as its bytes. Texts are equal byte by byte, and ordered byte by byte with a
+/// prefix first. A text keeps the allocator that it was made with, and grows by it.
 #[derive(Debug, Drop)]
 pub struct Text {
     text: String,
@@ -23,6 +24,7 @@ impl Model for Text {
 }
 
 impl Text {
+    /// The text without bytes. Takes no memory.
     pub fn new(alloc: Global) -> Text
         ensures { result ≡ [] }
     {
@@ -31,7 +33,7 @@ impl Text {
         }
     }
 
-    /// A copy of the text.
+    /// The same text in memory of its own. `AllocError` is want of memory.
     pub fn from_str(alloc: Global, text: &str) -> Result<Text, AllocError>
         ensures { IfOk result (λ t. t ≡ text.now) }
     {
@@ -40,12 +42,14 @@ impl Text {
         })
     }
 
+    /// Lends the text. Takes no memory.
     pub fn as_str(&self) -> &str
         ensures { result.now ≡ self.now }
     {
         self.text.as_str()
     }
 
+    /// Adds a text at the end. On `AllocError`, want of memory, the text is as before.
     pub fn push_str(&mut self, more: &str) -> Result<(), AllocError>
         ensures ok { OnOk result (self.new ≡ self.old ++ more.now) }
         ensures err { OnErr result (self.new ≡ self.old) }
@@ -53,13 +57,15 @@ impl Text {
         self.text.push_str(more)
     }
 
-    /// One, and one for each 32 bytes.
+    /// The weight of a text: 1, and 1 more for each whole 32 bytes. The limits on values and states
+    /// count such units, which are this project's own. Takes no memory.
     pub fn weight(&self) -> u64
         ensures { result ≡ 1 + length self.now / 32 }
     {
         1 + self.text.len() as u64 / 32
     }
 
+    /// An equal text in memory of its own. `AllocError` is want of memory.
     pub fn copy(&self, alloc: Global) -> Result<Text, AllocError>
         ensures { IfOk result (λ t. t ≡ self.now) }
     {

@@ -1,1 +1,2 @@
+-- What `src/list.rt` declares that holds values.
 pub mod List
