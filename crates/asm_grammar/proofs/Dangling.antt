@@ -1,62 +1,74 @@
--- A body, and what may follow it only where it is closed.
-use Rattle.std.proofs.Common.{◌≡◌, ℕ, zero, suc, List, [], ◌∷◌, ◌++◌, Bool, true, false, ◌⊎◌, inl, inr, sym, refl, ap, ◌∙◌, subst, append_assoc, append-nil}
-use Rattle.std.specs.Prelude.{cond, not, ◌||◌, ◌&&◌, Option, Some, None}
-use Rattle.asm_grammar.specs.Language.{Language, Dangles, dangling, maybe}
-use Rattle.asm_grammar.specs.Parser.{Reply, Took, Refused, Parser, and_then, ◌>>=◌, pure, sees, choose, mapped, both, optional}
-use Rattle.asm_grammar.proofs.Exact.{SoundAt, Sound, Ends, Gives, IsRestOf, Reaches, Complete, Apart, any_sound}
-use Rattle.asm_grammar.proofs.Basic.{rest_of_rest, whole_rest, reaches_any, made_gives, made_reaches, true_is_false}
-use Rattle.asm_grammar.proofs.Pairs.{or_false, or_left, or_right, is_true, further}
+-- The parser of a body, and of what may follow it only where it is closed, is exact.
+use Rattle.std.proofs.Common.{◌≡◌, List, [], ◌∷◌, ◌++◌, Bool, true, false, inl, inr, sym, refl, ap, ◌∙◌, subst, append_assoc, append-nil}
+use Rattle.std.specs.Prelude.{cond, ◌||◌, Option, Some, None}
+use Rattle.asm_grammar.specs.Language.{Language, Dangles, dangling}
+use Rattle.asm_grammar.specs.Parser.{Reply, Took, Refused, Parser, sees, both, optional}
+use Rattle.asm_grammar.proofs.Exact.{SoundAt, Sound, Ends, Gives, Reaches, Complete, Apart}
+use Rattle.asm_grammar.proofs.Basic.{reaches_any, true_is_false, remade}
+use Rattle.asm_grammar.proofs.Pairs.{or_false, further, regroup, split_on, paired, with_next}
+use Rattle.asm_grammar.proofs.Greedy.{GreedyAt, Greedy}
 
--- after a value that isn't closed the parser leaves no token of F
-abbrev pub GreedyAt : {T V : Type 0} → (V → Bool) → (T → Bool) → Reply T V → Type 0
-GreedyAt is_closed F (Took v rest) = is_closed v ≡ false → Ends F rest
-GreedyAt is_closed F (Refused x rest) = Unit {0}
+-- what `optional` answers at a list, by whether its form begins there
+abbrev optional_at : {T W : Type 0} → Parser T W → List T → Bool → Reply T (Option W)
+optional_at q ts x = cond x (remade Some (q ts)) (Took None ts)
 
-abbrev pub Greedy : {T V : Type 0} → (V → Bool) → (T → Bool) → Parser T V → Type 0
-Greedy {T} is_closed F p = (ts : List T) → GreedyAt is_closed F (p ts)
+-- ---- what is taken is spelled
 
-module _ {T V W : Type 0} (is_closed : V → Bool) (F : T → Bool) {p : Parser T V} {q : Parser T W} {B B' : Language T V} {M M' : Language T W} where
-  module _ (s : Sound p B B') (s' : Sound q M M') (greedy : Greedy is_closed F p) where
-    closed_by : (v : V) (rest : List T) → sees F rest ≡ true → (is_closed v ≡ false → Ends F rest) → (x : Bool) → is_closed v ≡ x → x ≡ true
-    closed_by v rest seen g true i = refl
-    closed_by v [] seen g false i = absurd (cc seen)
-    closed_by v (t ∷ rest) seen g false i = absurd (true_is_false (F t) seen (g i))
+module _ {T V W : Type 0} (is_closed : V → Bool) (F : T → Bool) {p : Parser T V} {q : Parser T W} {B B' : Language T V} {M M' : Language T W}
+    (s : Sound p B B') (s' : Sound q M M') (greedy : Greedy is_closed F p) where
+  closed_by : (v : V) (rest : List T) → sees F rest ≡ true → (is_closed v ≡ false → Ends F rest) → (x : Bool) → is_closed v ≡ x → x ≡ true
+  closed_by v rest seen g true i = refl
+  closed_by v [] seen g false i = absurd (cc seen)
+  closed_by v (t ∷ rest) seen g false i = absurd (true_is_false (F t) seen (g i))
 
-    dangling_more : (ts : List T) (v : V) (a rest : List T) → ts ≡ a ++ rest → B.Spells v a → B'.Spells v a → is_closed v ≡ true → (r : Reply T W) → SoundAt M M' rest r
-        → SoundAt (dangling is_closed B M) (dangling is_closed B' M') ts (and_then (and_then r (λ w. pure (Some w))) (λ w. pure (v, w)))
-    dangling_more ts v a rest e sp wide c (Took w rest') h = (a ++ h.0, e ∙ ap (λ x. a ++ x) h.1 ∙ sym (append_assoc a h.0 rest'), (a, h.0, refl, c, sp, h.2))
-    dangling_more ts v a rest e sp wide c (Refused false rest') h = (a ++ h.0, e ∙ ap (λ x. a ++ x) h.1 ∙ sym (append_assoc a h.0 rest'), inr (v, a, h.0, refl, c, sp, h.2))
-    dangling_more ts v a rest e sp wide c (Refused true rest') h = (
-      a ++ h.0, h.1, h.2, h.3, e ∙ ap (λ x. a ++ x) h.4 ∙ sym (append_assoc a h.0 rest'),
-      inr (v, a, h.0, refl, c, sp, h.5),
-      inr (v, a, h.0 ++ h.1 ∷ [], append_assoc a h.0 (h.1 ∷ []), c, wide, h.6))
+  dangling_more : (ts : List T) (v : V) (a rest : List T) → ts ≡ a ++ rest → B.Spells v a → B'.Spells v a → is_closed v ≡ true → (r : Reply T W)
+      → SoundAt M M' rest r → SoundAt (dangling is_closed B M) (dangling is_closed B' M') ts (paired v (remade Some r))
+  dangling_more ts v a rest e sp wide c (Took w rest') h = (a ++ h.0, regroup ts a rest h.0 rest' e h.1, (a, h.0, refl, c, sp, h.2))
+  dangling_more ts v a rest e sp wide c (Refused false rest') h =
+      (a ++ h.0, regroup ts a rest h.0 rest' e h.1, inr (v, a, h.0, refl, c, sp, h.2))
+  dangling_more ts v a rest e sp wide c (Refused true rest') h = (
+    a ++ h.0,
+    h.1,
+    h.2,
+    h.3,
+    regroup ts a rest h.0 rest' e h.4,
+    inr (v, a, h.0, refl, c, sp, h.5),
+    inr (v, a, h.0 ++ h.1 ∷ [], append_assoc a h.0 (h.1 ∷ []), c, wide, h.6),
+  )
 
-    dangling_test : (ts : List T) (v : V) (a rest : List T) → ts ≡ a ++ rest → B.Spells v a → (is_closed v ≡ false → Ends F rest) → (x : Bool) → sees F rest ≡ x
-        → SoundAt (dangling is_closed B M) (dangling is_closed B' M') ts (and_then (cond x (and_then (q rest) (λ w. pure (Some w))) (Took None rest)) (λ w. pure (v, w)))
-    dangling_test ts v a rest e sp g false i = (a, e, sp)
-    dangling_test ts v a rest e sp g true i = dangling_more ts v a rest e sp (s.wider v a sp) (go (is_closed v) refl) (q rest) (s'.at rest)
-      where
-        go : (x : Bool) → is_closed v ≡ x → is_closed v ≡ true
-        go x j = j ∙ closed_by v rest i g x j
+  dangling_test : (ts : List T) (v : V) (a rest : List T) → ts ≡ a ++ rest → B.Spells v a → (is_closed v ≡ false → Ends F rest)
+      → (x : Bool) → sees F rest ≡ x → SoundAt (dangling is_closed B M) (dangling is_closed B' M') ts (paired v (optional_at q rest x))
+  dangling_test ts v a rest e sp g false i = (a, e, sp)
+  dangling_test ts v a rest e sp g true i = dangling_more ts v a rest e sp (s.wider v a sp) (go (is_closed v) refl) (q rest) (s'.at rest)
+    where
+      go : (x : Bool) → is_closed v ≡ x → is_closed v ≡ true
+      go x j = j ∙ closed_by v rest i g x j
 
-    dangling_at : (ts : List T) → (r : Reply T V) → SoundAt B B' ts r → GreedyAt is_closed F r → SoundAt (dangling is_closed B M) (dangling is_closed B' M') ts (and_then r (λ v. mapped (λ w. (v, w)) (optional F q)))
-    dangling_at ts (Took v rest) h g = dangling_test ts v h.0 rest h.1 h.2 g (sees F rest) refl
-    dangling_at ts (Refused false rest) h g = (h.0, h.1, inl h.2)
-    dangling_at ts (Refused true rest) h g = (h.0, h.1, h.2, h.3, h.4, inl h.5, inl h.6)
+  dangling_at : (ts : List T) → (r : Reply T V) → SoundAt B B' ts r → GreedyAt is_closed F r
+      → SoundAt (dangling is_closed B M) (dangling is_closed B' M') ts (with_next r (optional F q))
+  dangling_at ts (Took v rest) h g = dangling_test ts v h.0 rest h.1 h.2 g (sees F rest) refl
+  dangling_at ts (Refused false rest) h g = (h.0, h.1, inl h.2)
+  dangling_at ts (Refused true rest) h g = (h.0, h.1, h.2, h.3, h.4, inl h.5, inl h.6)
 
-    wider_dangles : (v : V) (w : Option W) (ts : List T) → Dangles is_closed B M v w ts → Dangles is_closed B' M' v w ts
-    wider_dangles v None ts h = s.wider v ts h
-    wider_dangles v (Some w) ts h = (h.0, h.1, h.2, h.3, s.wider v h.0 h.4, s'.wider w h.1 h.5)
+  wider_dangles : (v : V) (w : Option W) (ts : List T) → Dangles is_closed B M v w ts → Dangles is_closed B' M' v w ts
+  wider_dangles v None ts h = s.wider v ts h
+  wider_dangles v (Some w) ts h = (h.0, h.1, h.2, h.3, s.wider v h.0 h.4, s'.wider w h.1 h.5)
 
-    pub sound-dangling : Sound (both p (optional F q)) (dangling is_closed B M) (dangling is_closed B' M')
-    sound-dangling = record { at = λ ts. dangling_at ts (p ts) (s.at ts) (greedy ts); wider = λ v ts h. wider_dangles v.0 v.1 ts h }
+  pub sound-dangling : Sound (both p (optional F q)) (dangling is_closed B M) (dangling is_closed B' M')
+  sound-dangling = record {
+    at = λ ts. dangling_at ts (p ts) (s.at ts) (greedy ts);
+    wider = λ v ts h. wider_dangles v.0 v.1 ts h;
+  }
 
--- what may go on
+-- ---- what is spelled is taken
+
+-- what may go on after a body, and after what follows it
 abbrev pub dangling_on : {T V W : Type 0} → (T → Bool) → (V → T → Bool) → (W → T → Bool) → V × Option W → T → Bool
 dangling_on F C C' (v, None) t = F t || C v t
 dangling_on F C C' (v, Some w) t = C' w t
 
-module _ {T V W : Type 0} (X : Bool) (is_closed : V → Bool) {p : Parser T V} {q : Parser T W} {B : Language T V} {M : Language T W} {G F : T → Bool} {C : V → T → Bool} {C' : W → T → Bool}
+module _ {T V W : Type 0} (X : Bool) (is_closed : V → Bool) {p : Parser T V} {q : Parser T W} {B : Language T V} {M : Language T W}
+    {G F : T → Bool} {C : V → T → Bool} {C' : W → T → Bool}
     (c : Complete X p B G C false) (c' : Complete X q M F C' false) (apart : (v : V) → is_closed v ≡ true → Apart (C v) F) where
   ends_body : (v : V) (b : List T) → Ends (λ t. F t || C v t) b → Ends (C v) b
   ends_body v [] h = tt
@@ -70,65 +82,79 @@ module _ {T V W : Type 0} (X : Bool) (is_closed : V → Bool) {p : Parser T V} {
   seen_first w [] b sp = absurd (c'.nonempty refl w sp)
   seen_first w (t ∷ a) b sp = c'.first t a (c'.begins w (t ∷ a) sp)
 
-  seen_begun : (t : T) (a b : List T) → M.Begins (t ∷ a) → sees F (t ∷ a ++ b) ≡ true
-  seen_begun t a b bg = c'.first t a bg
-
   ends_more : (v : V) (w : W) (a b : List T) → is_closed v ≡ true → M.Spells w a → Ends (C v) (a ++ b)
   ends_more v w [] b i sp = absurd (c'.nonempty refl w sp)
   ends_more v w (t ∷ a) b i sp = apart v i t (c'.first t a (c'.begins w (t ∷ a) sp))
 
-  -- after the body
-  none_gives : (v : V) (b : List T) → sees F b ≡ false → (r : Reply T V) → Gives X v b r → Gives {V = V × Option W} X (v, None) b (and_then r (λ v. mapped (λ w. (v, w)) (optional F q)))
-  none_gives v b i (Took u rest) g = subst (λ (x : List T). Gives {V = V × Option W} X (v, None) b (and_then (cond (sees F x) (and_then (q x) (λ w. pure (Some w))) (Took None x)) (λ w. pure (u, w)))) (sym g.1)
-      (subst (λ (x : Bool). Gives {V = V × Option W} X (v, None) b (and_then (cond x (and_then (q b) (λ w. pure (Some w))) (Took None b)) (λ w. pure (u, w)))) (sym i) (ap (λ x. (x, None)) g.0, refl))
+  -- what is read after the body
+  abbrev tail : Reply T V → Reply T (V × Option W)
+  tail r = with_next r (optional F q)
+
+  none_gives : (v : V) (b : List T) → sees F b ≡ false → (r : Reply T V) → Gives X v b r → Gives {V = V × Option W} X (v, None) b (tail r)
+  none_gives v b i (Took u rest) g =
+      subst (λ (x : List T). Gives {V = V × Option W} X (v, None) b (paired u (optional_at q x (sees F x)))) (sym g.1)
+      (subst (λ (x : Bool). Gives {V = V × Option W} X (v, None) b (paired u (optional_at q b x))) (sym i) (ap (λ x. (x, None)) g.0, refl))
   none_gives v b i (Refused false rest) g = absurd g
   none_gives v b i (Refused true rest) g = g
 
-  some_gives_2 : (u v : V) (w : W) (b : List T) → u ≡ v → (r : Reply T W) → Gives X w b r → Gives {V = V × Option W} X (v, Some w) b (and_then (and_then r (λ w. pure (Some w))) (λ w. pure (u, w)))
+  some_gives_2 : (u v : V) (w : W) (b : List T) → u ≡ v → (r : Reply T W) → Gives X w b r
+      → Gives {V = V × Option W} X (v, Some w) b (paired u (remade Some r))
   some_gives_2 u v w b e (Took w' rest) g = ((λ i. (e i, Some (g.0 i))), g.1)
   some_gives_2 u v w b e (Refused false rest) g = absurd g
   some_gives_2 u v w b e (Refused true rest) g = g
 
-  some_gives : (v : V) (w : W) (d b : List T) → sees F d ≡ true → Gives X w b (q d) → (r : Reply T V) → Gives X v d r → Gives {V = V × Option W} X (v, Some w) b (and_then r (λ v. mapped (λ w. (v, w)) (optional F q)))
-  some_gives v w d b i h (Took u rest) g = subst (λ (x : List T). Gives {V = V × Option W} X (v, Some w) b (and_then (cond (sees F x) (and_then (q x) (λ w. pure (Some w))) (Took None x)) (λ w. pure (u, w)))) (sym g.1)
-      (subst (λ (x : Bool). Gives {V = V × Option W} X (v, Some w) b (and_then (cond x (and_then (q d) (λ w. pure (Some w))) (Took None d)) (λ w. pure (u, w)))) (sym i) (some_gives_2 u v w b g.0 (q d) h))
+  some_gives : (v : V) (w : W) (d b : List T) → sees F d ≡ true → Gives X w b (q d) → (r : Reply T V) → Gives X v d r
+      → Gives {V = V × Option W} X (v, Some w) b (tail r)
+  some_gives v w d b i h (Took u rest) g =
+      subst (λ (x : List T). Gives {V = V × Option W} X (v, Some w) b (paired u (optional_at q x (sees F x)))) (sym g.1)
+      (subst (λ (x : Bool). Gives {V = V × Option W} X (v, Some w) b (paired u (optional_at q d x))) (sym i) (some_gives_2 u v w b g.0 (q d) h))
   some_gives v w d b i h (Refused false rest) g = absurd g
   some_gives v w d b i h (Refused true rest) g = g
 
-  dangling_whole : (v : V) (w : Option W) (ts b : List T) → Dangles is_closed B M v w ts → Ends (dangling_on F C C' (v, w)) b → Gives X (v, w) b (both p (optional F q) (ts ++ b))
+  dangling_whole : (v : V) (w : Option W) (ts b : List T) → Dangles is_closed B M v w ts → Ends (dangling_on F C C' (v, w)) b
+      → Gives X (v, w) b (both p (optional F q) (ts ++ b))
   dangling_whole v None ts b h e = none_gives v b (unseen v b e) (p (ts ++ b)) (c.whole v ts b h (ends_body v b e))
   dangling_whole v (Some w) ts b h e =
-      subst (λ (x : List T). Gives {V = V × Option W} X (v, Some w) b (and_then (p x) (λ v. mapped (λ w. (v, w)) (optional F q)))) (sym (ap (λ x. x ++ b) h.2 ∙ append_assoc h.0 h.1 b))
-      (some_gives v w (h.1 ++ b) b (seen_first w h.1 b h.5) (c'.whole w h.1 b h.5 e) (p (h.0 ++ (h.1 ++ b))) (c.whole v h.0 (h.1 ++ b) h.4 (ends_more v w h.1 b h.3 h.5)))
+      subst (λ (x : List T). Gives {V = V × Option W} X (v, Some w) b (tail (p x))) (sym (split_on ts h.0 h.1 b h.2))
+      (some_gives v w (h.1 ++ b) b (seen_first w h.1 b h.5) (c'.whole w h.1 b h.5 e)
+      (p (h.0 ++ (h.1 ++ b))) (c.whole v h.0 (h.1 ++ b) h.4 (ends_more v w h.1 b h.3 h.5)))
 
-  -- what is left after the optional part
-  tail_any : (u : V) (rest : List T) (x : Bool) (r : Reply T W) → Reaches false rest r → Reaches {V = V × Option W} false rest (and_then (cond x (and_then r (λ w. pure (Some w))) (Took None rest)) (λ w. pure (u, w)))
+  -- ---- a partial spelling
+
+  tail_any : (u : V) (rest : List T) (x : Bool) (r : Reply T W) → Reaches false rest r
+      → Reaches false rest (paired u (cond x (remade Some r) (Took None rest)))
   tail_any u rest false r h = ([], refl)
   tail_any u rest true (Took w rest') h = h
   tail_any u rest true (Refused false rest') h = h
   tail_any u rest true (Refused true rest') h = h
 
-  body_any : (Y : Bool) (b : List T) (r : Reply T V) → Reaches Y b r → Reaches {V = V × Option W} Y b (and_then r (λ v. mapped (λ w. (v, w)) (optional F q)))
-  body_any Y b (Took u rest) h = further Y b rest (and_then {W = V × Option W} (optional F q rest) (λ w. pure (u, w))) h (reaches_any Y rest (and_then {W = V × Option W} (optional F q rest) (λ w. pure (u, w))) (tail_any u rest (sees F rest) (q rest) (c'.any rest)))
+  body_any : (Y : Bool) (b : List T) (r : Reply T V) → Reaches Y b r → Reaches Y b (tail r)
+  body_any Y b (Took u rest) h =
+      let r' : Reply T (V × Option W) = paired u (optional F q rest) in
+      further Y b rest r' h (reaches_any Y rest r' (tail_any u rest (sees F rest) (q rest) (c'.any rest)))
   body_any Y b (Refused false rest) h = h
   body_any Y b (Refused true rest) h = h
 
-  some_reaches_2 : (u : V) (b : List T) (r : Reply T W) → Reaches X b r → Reaches {V = V × Option W} X b (and_then (and_then r (λ w. pure (Some w))) (λ w. pure (u, w)))
+  some_reaches_2 : (u : V) (b : List T) (r : Reply T W) → Reaches X b r → Reaches X b (paired u (remade Some r))
   some_reaches_2 u b (Took w rest) g = g
   some_reaches_2 u b (Refused false rest) g = g
   some_reaches_2 u b (Refused true rest) g = g
 
-  some_reaches : (v : V) (d b : List T) → sees F d ≡ true → Reaches X b (q d) → (r : Reply T V) → Gives X v d r → Reaches {V = V × Option W} X b (and_then r (λ v. mapped (λ w. (v, w)) (optional F q)))
-  some_reaches v d b i h (Took u rest) g = subst (λ (x : List T). Reaches {V = V × Option W} X b (and_then (cond (sees F x) (and_then (q x) (λ w. pure (Some w))) (Took None x)) (λ w. pure (u, w)))) (sym g.1)
-      (subst (λ (x : Bool). Reaches {V = V × Option W} X b (and_then (cond x (and_then (q d) (λ w. pure (Some w))) (Took None d)) (λ w. pure (u, w)))) (sym i) (some_reaches_2 u b (q d) h))
+  some_reaches : (v : V) (d b : List T) → sees F d ≡ true → Reaches X b (q d) → (r : Reply T V) → Gives X v d r → Reaches X b (tail r)
+  some_reaches v d b i h (Took u rest) g =
+      subst (λ (x : List T). Reaches X b (paired u (optional_at q x (sees F x)))) (sym g.1)
+      (subst (λ (x : Bool). Reaches X b (paired u (optional_at q d x))) (sym i) (some_reaches_2 u b (q d) h))
   some_reaches v d b i h (Refused false rest) g = absurd g
   some_reaches v d b i h (Refused true rest) g = inl g
 
-  dangling_partly_2 : (v : V) (ts a a' b : List T) → ts ≡ a ++ a' → is_closed v ≡ true → B.Spells v a → M.Begins a' → Reaches X b (both p (optional F q) (ts ++ b))
-  dangling_partly_2 v ts a [] b e i sp bg = body_any X b (p (ts ++ b)) (c.partly ts b (subst (λ x. B.Begins x) (sym (e ∙ append-nil a)) (c.begins v a sp)))
+  dangling_partly_2 : (v : V) (ts a a' b : List T) → ts ≡ a ++ a' → is_closed v ≡ true → B.Spells v a → M.Begins a'
+      → Reaches X b (both p (optional F q) (ts ++ b))
+  dangling_partly_2 v ts a [] b e i sp bg =
+      body_any X b (p (ts ++ b)) (c.partly ts b (subst (λ x. B.Begins x) (sym (e ∙ append-nil a)) (c.begins v a sp)))
   dangling_partly_2 v ts a (t ∷ a') b e i sp bg =
-      subst (λ (x : List T). Reaches {V = V × Option W} X b (and_then (p x) (λ v. mapped (λ w. (v, w)) (optional F q)))) (sym (ap (λ x. x ++ b) e ∙ append_assoc a (t ∷ a') b))
-      (some_reaches v (t ∷ a' ++ b) b (seen_begun t a' b bg) (c'.partly (t ∷ a') b bg) (p (a ++ (t ∷ a' ++ b))) (c.whole v a (t ∷ a' ++ b) sp (apart v i t (c'.first t a' bg))))
+      let rest : List T = t ∷ a' ++ b in
+      subst (λ (x : List T). Reaches X b (tail (p x))) (sym (split_on ts a (t ∷ a') b e))
+      (some_reaches v rest b (c'.first t a' bg) (c'.partly (t ∷ a') b bg) (p (a ++ rest)) (c.whole v a rest sp (apart v i t (c'.first t a' bg))))
 
   dangling_partly : (ts b : List T) → (dangling is_closed B M).Begins ts → Reaches X b (both p (optional F q) (ts ++ b))
   dangling_partly ts b (inl bg) = body_any X b (p (ts ++ b)) (c.partly ts b bg)
@@ -136,7 +162,8 @@ module _ {T V W : Type 0} (X : Bool) (is_closed : V → Bool) {p : Parser T V} {
 
   dangling_first_2 : (t : T) (ts : List T) (v : V) (a a' : List T) → t ∷ ts ≡ a ++ a' → B.Spells v a → G t ≡ true
   dangling_first_2 t ts v [] a' e sp = absurd (c.nonempty refl v sp)
-  dangling_first_2 t ts v (u ∷ a) a' e sp = let same : t ≡ u = cc e in subst (λ x. G x ≡ true) (sym same) (c.first u a (c.begins v (u ∷ a) sp))
+  dangling_first_2 t ts v (u ∷ a) a' e sp =
+      let same : t ≡ u = cc e in subst (λ x. G x ≡ true) (sym same) (c.first u a (c.begins v (u ∷ a) sp))
 
   dangling_first : (t : T) (ts : List T) → (dangling is_closed B M).Begins (t ∷ ts) → G t ≡ true
   dangling_first t ts (inl bg) = c.first t ts bg
@@ -163,64 +190,3 @@ module _ {T V W : Type 0} (X : Bool) (is_closed : V → Bool) {p : Parser T V} {
     nonempty = λ n v h. dangling_nonempty v.0 v.1 h;
     begins = λ v ts h. dangling_begins v.0 v.1 ts h;
   }
-
--- ---- what holds of each value that a parser takes, with what is left after it
-
-abbrev pub GoodAt : {T V : Type 0} → (V → List T → Type 0) → Reply T V → Type 0
-GoodAt P (Took v rest) = P v rest
-GoodAt P (Refused x rest) = Unit {0}
-
-abbrev pub Good : {T V : Type 0} → (V → List T → Type 0) → Parser T V → Type 0
-Good {T} P p = (ts : List T) → GoodAt P (p ts)
-
-map_at : {T V W : Type 0} (P : W → List T → Type 0) (f : V → W) (r : Reply T V) → GoodAt (λ v rest. P (f v) rest) r → GoodAt P (and_then r (λ v. pure (f v)))
-map_at P f (Took v rest) h = h
-map_at P f (Refused x rest) h = tt
-
-pub good-mapped : {T V W : Type 0} (P : W → List T → Type 0) (f : V → W) (p : Parser T V) → Good (λ v rest. P (f v) rest) p → Good P (mapped f p)
-good-mapped P f p h ts = map_at P f (p ts) (h ts)
-
-both_at : {T V W : Type 0} (P : V × W → List T → Type 0) (q : Parser T W) → ((v : V) → Good (λ w rest. P (v, w) rest) q) → (r : Reply T V) → GoodAt P (and_then r (λ v. mapped (λ w. (v, w)) q))
-both_at P q h (Took v rest) = map_at P (λ w. (v, w)) (q rest) (h v rest)
-both_at P q h (Refused x rest) = tt
-
-pub good-both : {T V W : Type 0} (P : V × W → List T → Type 0) (p : Parser T V) (q : Parser T W) → ((v : V) → Good (λ w rest. P (v, w) rest) q) → Good P (both p q)
-good-both P p q h ts = both_at P q h (p ts)
-
-pub choose_at : {T V : Type 0} (P : V → List T → Type 0) (x : Bool) (r r' : Reply T V) → GoodAt P r → GoodAt P r' → GoodAt P (cond x r r')
-choose_at P true (Took v rest) r' h h' = h
-choose_at P true (Refused y rest) r' h h' = tt
-choose_at P false r (Took v rest) h h' = h'
-choose_at P false r (Refused y rest) h h' = tt
-
-pub good-choose : {T V : Type 0} (P : V → List T → Type 0) (F : T → Bool) (p q : Parser T V) → Good P p → Good P q → Good P (choose F p q)
-good-choose P F p q h h' ts = choose_at P (sees F ts) (p ts) (q ts) (h ts) (h' ts)
-
-optional_at : {T V : Type 0} (P : Option V → List T → Type 0) (F : T → Bool) (ts : List T) (r : Reply T V) → GoodAt (λ v rest. P (Some v) rest) r → (sees F ts ≡ false → P None ts)
-    → (x : Bool) → sees F ts ≡ x → GoodAt P (cond x (and_then r (λ v. pure (Some v))) (Took None ts))
-optional_at P F ts r h n true i = map_at P Some r h
-optional_at P F ts r h n false i = n i
-
-pub good-optional : {T V : Type 0} (P : Option V → List T → Type 0) (F : T → Bool) (p : Parser T V) → Good (λ v rest. P (Some v) rest) p → ((ts : List T) → sees F ts ≡ false → P None ts) → Good P (optional F p)
-good-optional P F p h n ts = optional_at P F ts (p ts) (h ts) (n ts) (sees F ts) refl
-
-always_at : {T V : Type 0} (P : V → List T → Type 0) (h : (v : V) (rest : List T) → P v rest) (r : Reply T V) → GoodAt P r
-always_at P h (Took v rest) = h v rest
-always_at P h (Refused x rest) = tt
-
-pub good-always : {T V : Type 0} (P : V → List T → Type 0) (p : Parser T V) → ((v : V) (rest : List T) → P v rest) → Good P p
-good-always P p h ts = always_at P h (p ts)
-
-pub greedy_good : {T V : Type 0} (is_closed : V → Bool) (F : T → Bool) (p : Parser T V) → Good (λ v rest. is_closed v ≡ false → Ends F rest) p → Greedy is_closed F p
-greedy_good {T} {V} is_closed F p h ts = go (p ts) (h ts)
-  where
-    go : (r : Reply T V) → GoodAt (λ v rest. is_closed v ≡ false → Ends F rest) r → GreedyAt is_closed F r
-    go (Took v rest) x = x
-    go (Refused y rest) x = tt
-
-pub good_greedy : {T V : Type 0} (is_closed : V → Bool) (F : T → Bool) (p : Parser T V) → Greedy is_closed F p → Good (λ v rest. is_closed v ≡ false → Ends F rest) p
-good_greedy {T} {V} is_closed F p h ts = go (p ts) (h ts)
-  where
-    go : (r : Reply T V) → GreedyAt is_closed F r → GoodAt (λ v rest. is_closed v ≡ false → Ends F rest) r
-    go (Took v rest) x = x
-    go (Refused y rest) x = tt

@@ -1,27 +1,29 @@
--- The one value that a list spells, or the first token at which it is refused.
+-- The first token at which a list is refused, and why.
 use Rattle.std.specs.Prelude.{◌≡◌, ℕ, List, [], ◌∷◌, ◌++◌}
 use Rattle.asm_grammar.specs.Language.{Language}
 
--- a language in which the limit may be any number
+-- A language in which the limit may be any number, of languages that have one each.
 abbrev pub unlimited : {T V : Type 0} → (ℕ → Language T V) → Language T V
 unlimited L = record {
   Spells = λ v ts. (n : ℕ) × (L n).Spells v ts;
   Begins = λ ts. (n : ℕ) × (L n).Begins ts;
 }
 
--- a cannot go on with the next token, or cannot end here
-abbrev pub Ends_there : {T V : Type 0} → Language T V → List T → List T → Type 0
-Ends_there {T} {V} free a [] = (v : V) → free.Spells v a → ⊥
-Ends_there free a (t ∷ rest) = free.Begins (a ++ t ∷ []) → ⊥
+-- with the next token the front begins nothing; or no token is left, and the front spells nothing
+abbrev pub GoesNoFurther : {T V : Type 0} → Language T V → List T → List T → Type 0
+GoesNoFurther {T} {V} free front [] = (v : V) → free.Spells v front → ⊥
+GoesNoFurther free front (t ∷ rest) = free.Begins (front ++ t ∷ []) → ⊥
 
--- The tokens before `rest` are a partial spelling, and with the first of `rest` they aren't; or all are, and no whole one.
+-- The list is refused for its syntax where `rest` begins: what stands before is a partial spelling within the limit, and
+-- even without a limit it goes no further.
 pub record IsSyntax {T V : Type 0} (within free : Language T V) (ts rest : List T) : Type 0 where
   pub front : List T
   pub split : ts ≡ front ++ rest
   pub before : within.Begins front
-  pub there : Ends_there free front rest
+  pub there : GoesNoFurther free front rest
 
--- The first of `rest` goes on a partial spelling, and passes the limit.
+-- The list is refused for its depth where `rest` begins: with the next token it is a partial spelling without a limit,
+-- and within the limit it isn't.
 pub record IsTooDeep {T V : Type 0} (within free : Language T V) (ts rest : List T) : Type 0 where
   pub front : List T
   pub next : T
