@@ -1,0 +1,1 @@
+-- The lemmas stand in specs, where the crates above can cite them.

@@ -1,5 +1,8 @@
+-- What contracts cite: values, domains, locations, states and sets of updates, and their laws.
+pub mod ClashLaws
 pub mod Domain
 pub mod DomainLaws
+pub mod FiringLaws
 pub mod Location
 pub mod LocationLaws
 pub mod Proper

@@ -1,53 +1,70 @@
-//! Domains, and which values are in them.
+//! Domains as types of values, and which values are in them.
 ghost use Rattle.std.specs.Prelude.{◌≡◌, map};
 ghost use Rattle.std.specs.List.{list_all};
 ghost use Rattle.asm_value.specs.Domain as spec;
 ghost use Rattle.asm_value.specs.Domain.{fits, each_passes};
 
-use asm_base::List;
-use asm_base::Text;
 use crate::value::Value;
-use asm_base::Boxed;
+use asm_base::{Boxed, List, Text};
 
+/// A domain: the type of a function's argument or value. Numbers are places in the list of the declared
+/// domains, from 0.
 #[derive(Debug, Drop)]
 pub enum Domain {
+    /// The two truth values.
     Truth,
+    /// All integers.
     Int,
+    /// The integers from 0 on.
     Nat,
+    /// All strings.
     Chars,
+    /// The literals of the declared enumeration with this number.
     Enum(u16),
+    /// The members that the declared abstract domain with this number has in a state.
     Abstract(u16),
+    /// The integers of the declared subset with this number.
     Subset(u16),
+    /// The tuples with one item in each of the parts.
     Prod(List<Domain>),
+    /// The sequences of values of a domain.
     Seq(Boxed<Domain>),
+    /// The sets of values of a domain.
     Power(Boxed<Domain>),
 }
 
+/// What a declared domain is. Its names stand in text order.
 #[derive(Debug, Drop)]
 pub enum DomainKind {
-    /// Its literals.
+    /// An enumeration: its literals.
     Enum(List<Text>),
-    /// Its constants.
+    /// An abstract domain: its constants, which are members from the start.
     Abstract(List<Text>),
-    /// Its integers, ascending.
+    /// A subset of the integers: its integers, ascending.
     Subset(List<i128>),
 }
 
+/// A declared domain.
 #[derive(Debug, Drop)]
 pub struct DomainInfo {
+    /// Its name.
     pub name: Text,
+    /// What it is.
     pub kind: DomainKind,
 }
 
+/// The declared domains, in text order.
 pub type Domains = List<DomainInfo>;
 
-/// The members of each abstract domain, by their indexes, ascending. A domain of another kind has
-/// an empty list.
+/// The members of the abstract domains in a state.
 #[derive(Debug, Drop)]
 pub struct Live {
+    /// For each declared domain the indexes of its members, ascending; empty for one that is not
+    /// abstract.
     pub members: List<List<u16>>,
 }
 
+/// Whether the declared domain is an enumeration with a literal of this index.
 fn is_literal(domains: &Domains, domain: u16, index: u16) -> bool
     ensures { result ≡ spec.is_literal domains.now domain index }
 {
@@ -60,6 +77,7 @@ fn is_literal(domains: &Domains, domain: u16, index: u16) -> bool
     }
 }
 
+/// Whether the declared domain is a subset with this integer.
 fn is_in_subset(domains: &Domains, domain: u16, number: i128) -> bool
     ensures { result ≡ spec.is_in_subset domains.now domain number }
 {
@@ -72,6 +90,7 @@ fn is_in_subset(domains: &Domains, domain: u16, number: i128) -> bool
     }
 }
 
+/// Whether the domain has a member of this index in the state.
 fn is_live(live: &Live, domain: u16, index: u16) -> bool
     ensures { result ≡ spec.is_live live.now domain index }
 {
@@ -81,7 +100,9 @@ fn is_live(live: &Live, domain: u16, index: u16) -> bool
     }
 }
 
-/// Whether the value is in the domain. Takes no memory.
+/// Whether the value is in the domain: members of abstract domains by those that are there in the state,
+/// `live`. Undef is in no domain, and a number that no declared domain has is an empty domain. Takes no
+/// memory.
 #[cycle(fits)]
 #[tactic(auto, using(crate::specs::DomainLaws::domain_steps))]
 pub fn fits(value: &Value, domains: &Domains, domain: &Domain, live: &Live) -> bool
@@ -140,6 +161,7 @@ pub fn fits(value: &Value, domains: &Domains, domain: &Domain, live: &Live) -> b
     }
 }
 
+/// Whether each item is in the domain.
 #[cycle(fits)]
 #[tactic(auto, using(crate::specs::DomainLaws::domain_steps))]
 fn all_fit(items: &[Value], domains: &Domains, domain: &Domain, live: &Live) -> bool
@@ -153,6 +175,7 @@ fn all_fit(items: &[Value], domains: &Domains, domain: &Domain, live: &Live) -> 
     true
 }
 
+/// Whether there are as many items as domains, each item in the domain at its place.
 #[cycle(fits)]
 #[tactic(auto, using(crate::specs::DomainLaws::domain_steps))]
 fn fits_each(items: &[Value], domains: &Domains, parts: &[Domain], live: &Live) -> bool

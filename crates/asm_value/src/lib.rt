@@ -1,8 +1,10 @@
-//! Values, their total order, domains, locations and updates.
+//! Values with their total order and weights, domains, locations and updates; and the definitions of
+//! states, consistency and firing on which the crates above stand.
 #![tactic(auto)]
 
 mod args;
 mod domain;
+mod laws;
 mod location;
 mod range;
 #[cfg(test)]
@@ -12,6 +14,11 @@ mod value;
 pub use args::Args;
 pub use asm_base::{Boxed, List, Text};
 pub use domain::{Domain, DomainInfo, DomainKind, Domains, Live, fits};
+pub use laws::{
+    firing_a_list_writes_its_updates_alone, firing_nothing_changes_nothing,
+    firing_one_after_another_is_firing_the_overlay, firing_writes_its_updates_alone,
+    there_is_at_most_one_clash,
+};
 pub use location::{Location, Place, Update};
 pub use range::{sets_of, tuples};
 pub use value::{Value, compare_all, copy_all};

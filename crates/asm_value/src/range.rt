@@ -1,9 +1,9 @@
-//! All tuples over given lists, and all sets over one.
+//! All tuples over given lists, and all sets over one: what the ranges of domains are made of.
 ghost use Rattle.std.specs.Prelude.{◌≡◌, ◌++◌, ◌∷◌, OnOk, IfOk};
 ghost use Rattle.asm_value.specs.Ranges as spec;
 
-use asm_base::List;
 use crate::value::{Value, copy_all};
+use asm_base::List;
 use std::alloc::{AllocError, Global};
 
 /// The list with one more item before it.
@@ -33,7 +33,8 @@ fn put_first(
     Ok(())
 }
 
-/// One item of each list, the first slowest.
+/// All lists that take one item from each of the lists, the first item slowest; so they ascend where
+/// the lists do. No lists at all give the empty list alone. `AllocError` is want of memory.
 pub fn tuples(alloc: Global, ranges: &[List<Value>]) -> Result<List<List<Value>>, AllocError>
     ensures { IfOk result (λ all. all ≡ spec.tuples ranges.now) }
 {
@@ -53,7 +54,8 @@ pub fn tuples(alloc: Global, ranges: &[List<Value>]) -> Result<List<List<Value>>
     }
 }
 
-/// Each list that leaves out some of the items.
+/// All sublists of the items, the empty one first. Of ascending items they ascend and are the sets over
+/// the items, each once. `AllocError` is want of memory.
 pub fn sets_of(alloc: Global, items: &[Value]) -> Result<List<List<Value>>, AllocError>
     ensures { IfOk result (λ all. all ≡ spec.sets_of items.now) }
 {

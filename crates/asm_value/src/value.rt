@@ -1,4 +1,4 @@
-//! Values, their order and their weight.
+//! Values, their total order, their weights and copies of them.
 ghost use Rattle.std.specs.Prelude.{◌≡◌, ◌+◌, ◌-◌, ◌^◌, min, sum_by, IfOk, Some, refl};
 ghost use Rattle.std.specs.Cmp.{eq_by_cmp_equiv, partial_equiv_from_equiv, partial_order_from_total};
 ghost use Rattle.std.specs.Cmp.Lexicographic.{slice_cmp};
@@ -9,28 +9,37 @@ ghost use Rattle.asm_value.specs.Value.{compare, whole_weight};
 ghost use Rattle.asm_value.specs.State.{is_undef};
 ghost use Rattle.asm_value.specs.ValueLaws.{compare_total};
 
-use asm_base::List;
-use asm_base::Text;
+use asm_base::{List, Text};
 use std::alloc::{AllocError, Global};
 use std::cmp::Ordering;
 
-/// A value. The order goes by kind in the order of the variants, then by content; lists go item
-/// by item with a prefix first.
+/// A value, an element of a state's superuniverse. The order is total: by kind in the order of the
+/// variants, then by content. It and the weights are this project's own.
 #[derive(Debug, Drop)]
 pub enum Value {
+    /// The value of each location that has no other. It stands in no tuple, sequence or set.
     Undef,
+    /// A truth value; false comes before true.
     Truth(bool),
+    /// An integer.
     Int(i128),
+    /// A string; strings are ordered by their bytes, a prefix first.
     Chars(Text),
+    /// A member of a declared domain: the domain's number in text order, and the number of its
+    /// literal or of its member. Members are ordered by domain, then by index.
     Member { domain: u16, index: u16 },
+    /// A tuple; lists of values are ordered item by item, a prefix first.
     Tuple(List<Value>),
+    /// A finite sequence.
     Seq(List<Value>),
+    /// A finite set: its items, ascending and without repeats.
     Set(List<Value>),
 }
 
 #[tactic(auto, using(crate::specs::ValueLaws::value_steps))]
 impl Value {
-    /// The weight; 2^64 - 1 stands for that and more.
+    /// The weight in units: a string 1 and 1 more for each whole 32 bytes; a tuple, a sequence or a
+    /// set 1 and its items; all else 1. 2^64 - 1 stands for that and more. Takes no memory.
     #[cycle(weight)]
     pub fn weight(&self) -> u64
         ensures { result ≡ spec.weight self.now }
@@ -44,7 +53,7 @@ impl Value {
         }
     }
 
-    /// An equal value.
+    /// An equal value in memory of its own. `AllocError` is want of memory.
     #[cycle(copy)]
     pub fn copy(&self, alloc: Global) -> Result<Value, AllocError>
         ensures { IfOk result (λ v. v ≡ self.now) }
@@ -121,12 +130,14 @@ impl Value {
         }
     }
 
+    /// Whether the value is undef.
     pub fn is_undef(&self) -> bool
         ensures { result ≡ is_undef self.now }
     {
         self.compare(&Value::Undef).is_eq()
     }
 
+    /// Whether the value is a truth value.
     pub fn is_truth(&self) -> bool
         ensures { result ≡ spec.is_truth self.now }
     {
@@ -142,6 +153,7 @@ impl Value {
         }
     }
 
+    /// Whether the value is a string.
     pub fn is_chars(&self) -> bool
         ensures { result ≡ spec.is_chars self.now }
     {
@@ -157,6 +169,23 @@ impl Value {
         }
     }
 
+    /// The truth of a truth value; None of any other kind.
+    pub fn as_truth(&self) -> Option<bool>
+        ensures { result ≡ spec.as_truth self.now }
+    {
+        match self {
+            Value::Truth(truth) => Some(*truth),
+            Value::Undef
+            | Value::Int(_)
+            | Value::Chars(_)
+            | Value::Member { .. }
+            | Value::Tuple(_)
+            | Value::Seq(_)
+            | Value::Set(_) => None,
+        }
+    }
+
+    /// The number of an integer; None of any other kind.
     pub fn as_int(&self) -> Option<i128>
         ensures { result ≡ spec.as_int self.now }
     {
@@ -172,7 +201,7 @@ impl Value {
         }
     }
 
-    /// The domain and the index of a member.
+    /// The domain and the index of a member; None of any other kind.
     pub fn as_member(&self) -> Option<(u16, u16)>
         ensures { result ≡ spec.as_member self.now }
     {
@@ -188,7 +217,7 @@ impl Value {
         }
     }
 
-    /// The items of a tuple, a sequence or a set.
+    /// The items of a tuple, a sequence or a set in their order; none of any other kind.
     pub fn parts(&self) -> &[Value]
         ensures { result.now ≡ spec.parts self.now }
     {
@@ -212,7 +241,7 @@ impl Value {
             .then(self.bytes().cmp(&other.bytes()))
     }
 
-    /// The order of values. Takes no memory.
+    /// The order of values: Equal exactly for equal ones. Takes no memory.
     #[cycle(compare)]
     pub fn compare(&self, other: &Value) -> Ordering
         ensures { result ≡ compare self.now other.now }
@@ -233,6 +262,7 @@ impl Value {
     }
 }
 
+/// The weight of a list: 1 and its items. 2^64 - 1 stands for that and more.
 #[cycle(weight)]
 pub fn one_and_all(items: &[Value]) -> u64
     ensures { result ≡ min (1 + sum_by whole_weight items.now) (2 ^ 64 - 1) }
@@ -244,6 +274,7 @@ pub fn one_and_all(items: &[Value]) -> u64
     total
 }
 
+/// Equal values, in their order, as a list of their own. `AllocError` is want of memory.
 #[cycle(copy)]
 pub fn copy_all(alloc: Global, items: &[Value]) -> Result<List<Value>, AllocError>
     ensures { IfOk result (λ all. all ≡ items.now) }
@@ -255,7 +286,7 @@ pub fn copy_all(alloc: Global, items: &[Value]) -> Result<List<Value>, AllocErro
     Ok(all)
 }
 
-/// Item by item, a prefix first.
+/// The order of lists of values: item by item, a prefix first. Takes no memory.
 #[cycle(compare)]
 pub fn compare_all(items: &[Value], others: &[Value]) -> Ordering
     ensures { result ≡ slice_cmp compare items.now others.now }
