@@ -1,0 +1,1 @@
+-- No definitions of this crate's own: sets of updates are defined below, in the specs of values.
