@@ -3,6 +3,8 @@
 
 mod fault;
 mod places;
+#[cfg(test)]
+mod tests;
 mod token;
 mod tree;
 

@@ -1,10 +1,11 @@
-//! Tokens.
+//! Tokens: what each is, and where it stands.
 ghost use Rattle.std.specs.Prelude.{◌≡◌, IfOk};
 
 use asm_base::Text as Name;
 use std::alloc::{AllocError, Global};
 
-/// From the first byte of a text to the one behind the last, both counted from the text's start.
+/// A part of a text: the byte offset of its first byte, and of the one behind its last. Both count
+/// from the text's start.
 #[derive(Clone, Copy, Debug, PartialEq, Eq)]
 pub struct Span {
     pub start: u32,
@@ -15,14 +16,19 @@ pub struct Span {
 /// without its quotes.
 #[derive(Debug, Drop)]
 pub enum TokenKind {
+    /// A letter or `_`, then letters, digits and `_`: no keyword and no refused word.
     Id(Name),
+    /// The word behind a `$`. It may be a keyword or a refused word.
     Var(Name),
-    /// From 0 to 2^127 - 1.
+    /// From 0 to 2^127 - 1. An `n` that marks the digits is part of the span.
     Number(i128),
+    /// The bytes between two quotes, as they stand there: there are no escapes.
     Chars(Name),
+    /// A word that the grammar quotes.
     Keyword(Name),
     /// A word of the language's origin that this language leaves out.
     Refused(Name),
+    /// One or two bytes of punctuation.
     Symbol(Name),
 }
 

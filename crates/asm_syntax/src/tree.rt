@@ -3,27 +3,31 @@
 use crate::token::Token;
 use asm_base::{Boxed, List as Row};
 
+/// A domain, by its name.
 #[derive(Clone, Copy, Debug, PartialEq, Eq)]
 pub enum DomainTree {
     Boolean,
     Integer,
 }
 
-/// A declaration.
+/// A declaration of the signature.
 #[derive(Debug, Drop)]
 pub enum DeclTree {
     /// A controlled function without arguments: its name and its domain.
     Controlled(Token, DomainTree),
 }
 
+/// A term.
 #[derive(Debug, Drop)]
 pub enum TermTree {
     Number(Token),
     True,
     False,
+    /// A function without arguments.
     Name(Token),
 }
 
+/// A transition rule.
 #[derive(Debug, Drop)]
 pub enum RuleTree {
     Skip,
@@ -31,6 +35,7 @@ pub enum RuleTree {
     Update(Token, TermTree),
     /// The first rule, and those after it.
     Par(Boxed<RuleTree>, Row<RuleTree>),
+    /// The guard, the rule where it holds, and the rule behind `else` where there is one.
     If(TermTree, Boxed<RuleTree>, Option<Boxed<RuleTree>>),
 }
 

@@ -1,4 +1,4 @@
-use Rattle.std.proofs.Common.{◌≡◌, ℕ, ◌+◌, ◌≤◌, take}
+use Rattle.std.proofs.Common.{◌≡◌, ◌+◌, ◌≤◌, take}
 use Rattle.std.specs.Prelude.{◌==◌, not, count_by}
 use Rattle.std.specs.List.{suffix_len}
 use Rattle.asm_syntax.proofs.places.place.Given as goal
