@@ -1,22 +1,21 @@
 -- The cases of what stands at a place.
-use Rattle.std.proofs.Common.{◌≡◌, ℕ, zero, suc, ◌+◌, ◌-◌, ◌^◌, ◌<◌, ◌≤◌, Bool, true, false, List, [], ◌∷◌, ◌++◌, length, take, drop, get_or, sym, refl, ap, ◌∙◌, subst, arith, rules, add-one, length-drop, get_or-drop}
-use Rattle.std.specs.Prelude.{cond, codes, Option, Some, None, ℤ, pos, ◌==◌, ◌&&◌, nat_lt}
+use Rattle.std.proofs.Common.{◌≡◌, ℕ, zero, suc, ◌+◌, ◌-◌, ◌^◌, ◌<◌, ◌≤◌, Bool, true, false, List, [], ◌∷◌, length, take, drop, get_or, sym, refl, ap, ◌∙◌, subst, arith, get_or-drop}
+use Rattle.std.specs.Prelude.{cond, codes, Some, None, ℤ, pos, ◌==◌, ◌&&◌, nat_lt}
 use Rattle.std.specs.List.{prefix_len}
 use Rattle.std.specs.Str.{IsUtf8, IsCharBoundary}
 use Rattle.std.proofs.lemmas.Bool.Decides.{nat_tests}
 use Rattle.std.proofs.lemmas.List.{drop-drop}
-use Rattle.std.proofs.lemmas.Str.{IsCharBoundary-after_ascii, IsCharBoundary-before_ascii}
+use Rattle.std.proofs.lemmas.Str.{IsCharBoundary-after_ascii}
 use Rattle.asm_syntax.specs.Bytes.{is_letter, is_digit, is_word_byte, is_blank, is_string_byte, is_line_byte, starts_with, value_of}
 use Rattle.asm_syntax.specs.Words.{is_among, symbols, keywords, refused_words}
 use Rattle.asm_syntax.specs.Lexes.{word_kind}
-use Rattle.asm_syntax.specs.declared.fault.Fault.{Fault}
-use Rattle.asm_syntax.specs.declared.fault.Fault.TheVariants.{OpenComment, OpenString, NumberTooLarge, BadByte}
+use Rattle.asm_syntax.specs.declared.fault.Fault.TheVariants.{OpenString, NumberTooLarge, BadByte}
 use Rattle.asm_syntax.specs.declared.token.TokenKind.{TokenKind}
-use Rattle.asm_syntax.specs.declared.token.TokenKind.TheVariants.{Id, Var, Number, Chars, Keyword, Refused, Symbol}
+use Rattle.asm_syntax.specs.declared.token.TokenKind.TheVariants.{Var, Number, Chars, Symbol}
 use Rattle.asm_lex_theory.specs.declared.Front.{Front}
 use Rattle.asm_lex_theory.specs.declared.Front.TheVariants.{Gap, Taken, Wrong}
 use Rattle.asm_lex_theory.specs.Scan.{block_len, block_front, word_len, is_mark, Form, variable_form, digits_form, string_form, short_symbol, symbol_form, token_form, fits, token_front, front_of, front_on, token_here}
-use Rattle.asm_lex_theory.proofs.Lists.{by_cond, by_true, by_false, among_pass, all_pass, digit_no_letter, and_both}
+use Rattle.asm_lex_theory.proofs.Lists.{by_cond, by_true, by_false, among_pass, digit_no_letter, and_both}
 use Rattle.asm_lex_theory.proofs.Places.{cons_at, drop_out}
 
 drop_one : (bs : List ℕ) (at : ℕ) → drop 1 (drop (at + 1) bs) ≡ drop (at + 2) bs
@@ -34,7 +33,7 @@ unfolding front_of
 line_here bs at h e f =
     let P : Front → Type 0 = λ x. x ≡ Gap (prefix_len is_line_byte (drop (at + 2) bs) + 2) in
     sym (ap front_on (cons_at bs at h) ∙ by_false P (is_blank (get_or bs at 0)) _ _ e (by_true P (starts_with (codes "//") (get_or bs at 0 ∷ drop (at + 1) bs)) _ _ f
-      (ap (λ v. Gap (prefix_len is_line_byte v + 2)) (drop_one bs at))))
+    (ap (λ v. Gap (prefix_len is_line_byte v + 2)) (drop_one bs at))))
 
 pub block_at : (bs : List ℕ) (at : ℕ) → at < length bs → is_blank (get_or bs at 0) ≡ false → starts_with (codes "//") (get_or bs at 0 ∷ drop (at + 1) bs) ≡ false
     → starts_with (codes "/*") (get_or bs at 0 ∷ drop (at + 1) bs) ≡ true → block_front (block_len (drop (at + 2) bs)) ≡ front_on (drop at bs)
@@ -42,7 +41,7 @@ unfolding front_of
 block_at bs at h e f g =
     let P : Front → Type 0 = λ x. x ≡ block_front (block_len (drop (at + 2) bs)) in
     sym (ap front_on (cons_at bs at h) ∙ by_false P (is_blank (get_or bs at 0)) _ _ e (by_false P (starts_with (codes "//") (get_or bs at 0 ∷ drop (at + 1) bs)) _ _ f
-      (by_true P (starts_with (codes "/*") (get_or bs at 0 ∷ drop (at + 1) bs)) _ _ g (ap (λ v. block_front (block_len v)) (drop_one bs at)))))
+    (by_true P (starts_with (codes "/*") (get_or bs at 0 ∷ drop (at + 1) bs)) _ _ g (ap (λ v. block_front (block_len v)) (drop_one bs at)))))
 
 pub token_at_front : (bs : List ℕ) (at : ℕ) → at < length bs → is_blank (get_or bs at 0) ≡ false → starts_with (codes "//") (get_or bs at 0 ∷ drop (at + 1) bs) ≡ false
     → starts_with (codes "/*") (get_or bs at 0 ∷ drop (at + 1) bs) ≡ false → token_here bs at ≡ front_on (drop at bs)
@@ -50,7 +49,7 @@ unfolding front_of
 token_at_front bs at h e f g =
     let P : Front → Type 0 = λ x. x ≡ token_here bs at in
     sym (ap front_on (cons_at bs at h) ∙ by_false P (is_blank (get_or bs at 0)) _ _ e (by_false P (starts_with (codes "//") (get_or bs at 0 ∷ drop (at + 1) bs)) _ _ f
-      (by_false P (starts_with (codes "/*") (get_or bs at 0 ∷ drop (at + 1) bs)) _ _ g refl)))
+    (by_false P (starts_with (codes "/*") (get_or bs at 0 ∷ drop (at + 1) bs)) _ _ g refl)))
 
 -- ---- tokens
 
@@ -66,7 +65,7 @@ word_here bs at h e =
     let k = word_kind (take (word_len rest) (b ∷ rest)) in
     ap (λ v. Taken (word_kind (take (word_len rest) v)) (word_len rest)) (cons_at bs at h)
     ∙ sym (by_true (λ (f : Form). token_front b f ≡ Taken k (word_len rest)) (is_letter b) _ _ e
-        (by_true (λ (f : Front). f ≡ Taken k (word_len rest)) (fits k) _ _ (word_fits (take (word_len rest) (b ∷ rest))) refl))
+    (by_true (λ (f : Front). f ≡ Taken k (word_len rest)) (fits k) _ _ (word_fits (take (word_len rest) (b ∷ rest))) refl))
 
 pub digits_here : (bs : List ℕ) (at : ℕ) → is_digit (get_or bs at 0) ≡ true
     → token_front (get_or bs at 0) (digits_form (get_or bs at 0 ∷ drop (at + 1) bs) (prefix_len is_digit (drop (at + 1) bs) + 1)) ≡ token_here bs at
@@ -180,7 +179,7 @@ string_is : (bs : List ℕ) (at : ℕ) (f : Form) → is_letter (get_or bs at 0)
     → string_form (drop (at + 1) bs) (prefix_len is_string_byte (drop (at + 1) bs)) ≡ f → token_front (get_or bs at 0) f ≡ token_here bs at
 string_is bs at f e g q r v =
     ap (token_front (get_or bs at 0)) (sym (form_here (get_or bs at 0) (drop (at + 1) bs) f e g
-      (by_false (λ (x : Form). x ≡ f) (get_or bs at 0 == 36) _ _ q (by_true (λ (x : Form). x ≡ f) (get_or bs at 0 == 34) _ _ r v))))
+    (by_false (λ (x : Form). x ≡ f) (get_or bs at 0 == 36) _ _ q (by_true (λ (x : Form). x ≡ f) (get_or bs at 0 == 34) _ _ r v))))
 
 pub string_here : (bs : List ℕ) (at len : ℕ) → is_letter (get_or bs at 0) ≡ false → is_digit (get_or bs at 0) ≡ false → (get_or bs at 0 == 36) ≡ false → (get_or bs at 0 == 34) ≡ true
     → len ≡ prefix_len is_string_byte (drop (at + 1) bs) → at + 1 + len < length bs → (get_or bs (at + 1 + len) 0 == 34) ≡ true
@@ -192,7 +191,7 @@ string_here bs at len e g q r l h c =
     let n = prefix_len is_string_byte rest in
     let d : drop n rest ≡ get_or bs (at + 1 + len) 0 ∷ drop (at + 1 + len + 1) bs = ap (λ x. drop x rest) (sym l) ∙ drop-drop len (at + 1) bs ∙ cons_at bs (at + 1 + len) h in
     string_is bs at f e g q r (by_true (λ (x : Form). x ≡ f) (starts_with (codes "\"") (drop n rest)) _ _ (ap (starts_with (codes "\"")) d ∙ closes _ (drop (at + 1 + len + 1) bs) c)
-      (ap (λ x. Some (Chars (take x rest), x + 2)) (sym l)))
+    (ap (λ x. Some (Chars (take x rest), x + 2)) (sym l)))
   where
     closes : (b : ℕ) (after : List ℕ) → (b == 34) ≡ true → starts_with (codes "\"") (b ∷ after) ≡ true
     closes b after c = grind (arith, nat_tests)
@@ -224,7 +223,7 @@ symbol_is : (bs : List ℕ) (at : ℕ) (f : Form) → is_letter (get_or bs at 0)
     → symbol_form (get_or bs at 0) (drop (at + 1) bs) ≡ f → token_front (get_or bs at 0) f ≡ token_here bs at
 symbol_is bs at f e g q r v =
     ap (token_front (get_or bs at 0)) (sym (form_here (get_or bs at 0) (drop (at + 1) bs) f e g
-      (by_false (λ (x : Form). x ≡ f) (get_or bs at 0 == 36) _ _ q (by_false (λ (x : Form). x ≡ f) (get_or bs at 0 == 34) _ _ r v))))
+    (by_false (λ (x : Form). x ≡ f) (get_or bs at 0 == 36) _ _ q (by_false (λ (x : Form). x ≡ f) (get_or bs at 0 == 34) _ _ r v))))
 
 -- what a symbol of one byte gives
 abbrev pub short_front : ℕ → Front
@@ -247,7 +246,7 @@ pub symbol_short_here : (bs : List ℕ) (at : ℕ) → is_letter (get_or bs at 0
 symbol_short_here bs at e g q r h m =
     let b = get_or bs at 0 in
     short_is _ r ∙ symbol_is bs at (short_symbol b) e g q r (ap (symbol_form b) (cons_at bs (at + 1) h)
-      ∙ by_false (λ (x : Form). x ≡ short_symbol b) (is_among symbols (b ∷ get_or bs (at + 1) 0 ∷ [])) _ _ m refl)
+    ∙ by_false (λ (x : Form). x ≡ short_symbol b) (is_among symbols (b ∷ get_or bs (at + 1) 0 ∷ [])) _ _ m refl)
 
 pub symbol_long_here : (bs : List ℕ) (at : ℕ) → is_letter (get_or bs at 0) ≡ false → is_digit (get_or bs at 0) ≡ false → (get_or bs at 0 == 36) ≡ false → (get_or bs at 0 == 34) ≡ false
     → at + 1 < length bs → is_among symbols (get_or bs at 0 ∷ get_or bs (at + 1) 0 ∷ []) ≡ true
@@ -257,7 +256,7 @@ symbol_long_here bs at e g q r h m =
     let b = get_or bs at 0 in
     let s = b ∷ get_or bs (at + 1) 0 ∷ [] in
     symbol_is bs at (Some (Symbol s, 2)) e g q r (ap (symbol_form b) (cons_at bs (at + 1) h)
-      ∙ by_true (λ (x : Form). x ≡ Some (Symbol s, 2)) (is_among symbols s) _ _ m refl)
+    ∙ by_true (λ (x : Form). x ≡ Some (Symbol s, 2)) (is_among symbols s) _ _ m refl)
 
 -- ---- as the code says it
 

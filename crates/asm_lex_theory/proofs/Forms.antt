@@ -1,15 +1,15 @@
 -- The longest token at the front.
-use Rattle.std.proofs.Common.{◌≡◌, ℕ, zero, suc, ◌+◌, ◌<◌, ◌≤◌, Bool, true, false, List, [], ◌∷◌, ◌++◌, length, take, drop, ◌⊎◌, inl, inr, sym, refl, ap, ◌∙◌, subst, arith, append_assoc, length-append, rules}
-use Rattle.std.specs.Prelude.{cond, if◌then◌else◌, ◌||◌, ◌&&◌, not, ◌==◌, codes, Option, Some, None, ℤ, pos}
+use Rattle.std.proofs.Common.{◌≡◌, ℕ, ◌+◌, ◌≤◌, Bool, true, false, List, [], ◌∷◌, ◌++◌, length, take, drop, sym, refl, ap, ◌∙◌, subst, arith, append_assoc, length-append}
+use Rattle.std.specs.Prelude.{◌&&◌, not, ◌==◌, codes, Some, None, pos}
 use Rattle.std.specs.List.{prefix_len}
 use Rattle.std.proofs.lemmas.Bool.Decides.{nat_tests}
-use Rattle.asm_syntax.specs.Bytes.{is_letter, is_digit, is_word_byte, is_blank, is_string_byte, is_line_byte, Every, Stops, starts_with, value_of}
-use Rattle.asm_syntax.specs.Words.{is_among, symbols, keywords, refused_words}
-use Rattle.asm_syntax.specs.Lexes.{IsWord, IsDigits, word_kind, IsToken, word, variable, number, marked, chars, symbol, IsLongest}
+use Rattle.asm_syntax.specs.Bytes.{is_letter, is_digit, is_word_byte, is_string_byte, Stops, starts_with, value_of}
+use Rattle.asm_syntax.specs.Words.{is_among, symbols}
+use Rattle.asm_syntax.specs.Lexes.{word_kind, IsToken, word, variable, number, marked, chars, symbol, IsLongest}
 use Rattle.asm_syntax.specs.declared.token.TokenKind.{TokenKind}
-use Rattle.asm_syntax.specs.declared.token.TokenKind.TheVariants.{Id, Var, Number, Chars, Keyword, Refused, Symbol}
+use Rattle.asm_syntax.specs.declared.token.TokenKind.TheVariants.{Var, Number, Chars, Symbol}
 use Rattle.asm_lex_theory.specs.Scan.{word_len, is_mark, Form, variable_form, digits_form, string_form, short_symbol, symbol_form, token_form}
-use Rattle.asm_lex_theory.proofs.Lists.{by_cond, by_true, by_false, Split, split, prefix_at_least, prefix_is, taken, dropped, symbol_short, symbol_plain, plain_is, digit_no_letter, eq_is, is_plain}
+use Rattle.asm_lex_theory.proofs.Lists.{by_cond, by_true, by_false, split, prefix_at_least, prefix_is, taken, dropped, symbol_short, symbol_plain, plain_is, digit_no_letter, eq_is, is_plain}
 
 -- ---- what is found is a token
 
@@ -55,12 +55,16 @@ digits_spelled b rest h =
     let t : take len (b ∷ rest) ≡ b ∷ s.front = taken (b ∷ rest) (b ∷ s.front) s.back len e l in
     let d : drop len (b ∷ rest) ≡ s.back = dropped (b ∷ rest) (b ∷ s.front) s.back len e l in
     by_cond (λ (n : ℕ). Spelled (b ∷ rest) (Some (Number (pos (value_of (take len (b ∷ rest)))), n))) (is_mark (drop len (b ∷ rest))) _ _
-      (λ m.
-        let k = mark_is s.back (ap is_mark (sym d) ∙ m) in
-        let long : length ((b ∷ s.front) ++ codes "n") ≡ length (b ∷ s.front) + 1 = length-append (b ∷ s.front) (codes "n") in
-        ((b ∷ s.front) ++ codes "n", k.0, e ∙ ap (λ x. (b ∷ s.front) ++ x) k.1 ∙ sym (append_assoc (b ∷ s.front) (codes "n") k.0), omega arith,
-          subst (λ (x : List ℕ). IsToken ((b ∷ s.front) ++ codes "n") k.0 (Number (pos (value_of x)))) (sym t) (marked (b ∷ s.front) (h, s.all) k.2)))
-      (λ m. (b ∷ s.front, s.back, e, l, subst (λ (x : List ℕ). IsToken (b ∷ s.front) s.back (Number (pos (value_of x)))) (sym t) (number (h, s.all))))
+    (λ m.
+    let k = mark_is s.back (ap is_mark (sym d) ∙ m) in
+    let long : length ((b ∷ s.front) ++ codes "n") ≡ length (b ∷ s.front) + 1 = length-append (b ∷ s.front) (codes "n") in (
+      (b ∷ s.front) ++ codes "n",
+      k.0,
+      e ∙ ap (λ x. (b ∷ s.front) ++ x) k.1 ∙ sym (append_assoc (b ∷ s.front) (codes "n") k.0),
+      omega arith,
+      subst (λ (x : List ℕ). IsToken ((b ∷ s.front) ++ codes "n") k.0 (Number (pos (value_of x)))) (sym t) (marked (b ∷ s.front) (h, s.all) k.2),
+    ))
+    (λ m. (b ∷ s.front, s.back, e, l, subst (λ (x : List ℕ). IsToken (b ∷ s.front) s.back (Number (pos (value_of x)))) (sym t) (number (h, s.all))))
 
 quote_is : (g : List ℕ) → starts_with (codes "\"") g ≡ true → (after : List ℕ) × (g ≡ 34 ∷ after)
 quote_is [] h = absurd (cc)
@@ -72,10 +76,14 @@ string_spelled rest =
     let n = s.len in
     let len = prefix_len is_string_byte rest in
     by_cond (Spelled (34 ∷ rest)) (starts_with (codes "\"") (drop len rest)) _ _ (λ h.
-      let q = quote_is s.back (ap (starts_with (codes "\"")) (sym (dropped rest s.front s.back len s.parts n)) ∙ h) in
-      let long : length (s.front ++ 34 ∷ []) ≡ length s.front + 1 = length-append s.front (34 ∷ []) in
-      (34 ∷ (s.front ++ 34 ∷ []), q.0, ap (λ x. 34 ∷ x) (s.parts ∙ ap (λ x. s.front ++ x) q.1 ∙ sym (append_assoc s.front (34 ∷ []) q.0)), omega arith,
-        subst (λ (x : List ℕ). IsToken (34 ∷ (s.front ++ 34 ∷ [])) q.0 (Chars x)) (sym (taken rest s.front s.back len s.parts n)) (chars s.front s.all))) (λ h. tt)
+    let q = quote_is s.back (ap (starts_with (codes "\"")) (sym (dropped rest s.front s.back len s.parts n)) ∙ h) in
+    let long : length (s.front ++ 34 ∷ []) ≡ length s.front + 1 = length-append s.front (34 ∷ []) in (
+      34 ∷ (s.front ++ 34 ∷ []),
+      q.0,
+      ap (λ x. 34 ∷ x) (s.parts ∙ ap (λ x. s.front ++ x) q.1 ∙ sym (append_assoc s.front (34 ∷ []) q.0)),
+      omega arith,
+      subst (λ (x : List ℕ). IsToken (34 ∷ (s.front ++ 34 ∷ [])) q.0 (Chars x)) (sym (taken rest s.front s.back len s.parts n)) (chars s.front s.all),
+    )) (λ h. tt)
 
 short_spelled : (b : ℕ) (rest : List ℕ) → Spelled (b ∷ rest) (short_symbol b)
 short_spelled b rest = by_cond (Spelled (b ∷ rest)) (is_among symbols (b ∷ [])) _ _ (λ h. (b ∷ [], rest, refl, refl, symbol h)) (λ h. tt)
@@ -119,11 +127,11 @@ symbol_offers [] d h = absurd (cc)
 symbol_offers (x ∷ []) [] h = plain_form (Offers 1 (Symbol (x ∷ []))) x [] (symbol_plain (x ∷ []) h) (by_true (Offers 1 (Symbol (x ∷ []))) (is_among symbols (x ∷ [])) _ _ h (omega arith, λ e. refl))
 symbol_offers (x ∷ []) (y ∷ d) h =
     plain_form (Offers 1 (Symbol (x ∷ []))) x (y ∷ d) (symbol_plain (x ∷ []) h)
-      (by_cond (Offers 1 (Symbol (x ∷ []))) (is_among symbols (x ∷ y ∷ [])) _ _ (λ m. (omega arith, λ e. absurd (omega arith)))
-        (λ m. by_true (Offers 1 (Symbol (x ∷ []))) (is_among symbols (x ∷ [])) _ _ h (omega arith, λ e. refl)))
+    (by_cond (Offers 1 (Symbol (x ∷ []))) (is_among symbols (x ∷ y ∷ [])) _ _ (λ m. (omega arith, λ e. absurd (omega arith)))
+    (λ m. by_true (Offers 1 (Symbol (x ∷ []))) (is_among symbols (x ∷ [])) _ _ h (omega arith, λ e. refl)))
 symbol_offers (x ∷ y ∷ []) d h =
     plain_form (Offers 2 (Symbol (x ∷ y ∷ []))) x (y ∷ d) (symbol_plain (x ∷ y ∷ []) h)
-      (by_true (Offers 2 (Symbol (x ∷ y ∷ []))) (is_among symbols (x ∷ y ∷ [])) _ _ h (omega arith, λ e. refl))
+    (by_true (Offers 2 (Symbol (x ∷ y ∷ []))) (is_among symbols (x ∷ y ∷ [])) _ _ h (omega arith, λ e. refl))
 symbol_offers (x ∷ y ∷ z ∷ c) d h = absurd (let no = symbol_short (x ∷ y ∷ z ∷ c) h in cc)
 
 pub offers : (c d : List ℕ) (k : TokenKind) → IsToken c d k → Offers (length c) k (form_of (c ++ d))
@@ -132,21 +140,21 @@ offers c d k (word {a = []} h) = absurd h
 offers c d k (word {a = x ∷ a} h) =
     let more = prefix_at_least is_word_byte a d h.1 in
     by_true (Offers (length (x ∷ a)) (word_kind (x ∷ a))) (is_letter x) _ _ h.0
-      (omega arith, λ e. ap word_kind (taken ((x ∷ a) ++ d) (x ∷ a) d (word_len (a ++ d)) refl (sym e)))
+    (omega arith, λ e. ap word_kind (taken ((x ∷ a) ++ d) (x ∷ a) d (word_len (a ++ d)) refl (sym e)))
 offers c d k (variable {a = []} h) = absurd h
 offers c d k (variable {a = x ∷ a} h) =
     let more = prefix_at_least is_word_byte a d h.1 in
     by_true (Offers (length (36 ∷ x ∷ a)) (Var (x ∷ a))) (is_letter x) _ _ h.0
-      (omega arith, λ e. ap Var (taken ((x ∷ a) ++ d) (x ∷ a) d (word_len (a ++ d)) refl (omega arith)))
+    (omega arith, λ e. ap Var (taken ((x ∷ a) ++ d) (x ∷ a) d (word_len (a ++ d)) refl (omega arith)))
 offers c d k (number {a = []} h) = absurd h
 offers c d k (number {a = x ∷ a} h) =
     let more = prefix_at_least is_digit a d h.1 in
     let len = prefix_len is_digit (a ++ d) + 1 in
     by_false (Offers (length (x ∷ a)) (Number (pos (value_of (x ∷ a))))) (is_letter x) _ _ (digit_no_letter x h.0)
-      (by_true (Offers (length (x ∷ a)) (Number (pos (value_of (x ∷ a))))) (is_digit x) _ _ h.0
-        (by_cond (λ (n : ℕ). Offers (length (x ∷ a)) (Number (pos (value_of (x ∷ a)))) (Some (Number (pos (value_of (take len ((x ∷ a) ++ d)))), n))) (is_mark (drop len ((x ∷ a) ++ d))) _ _
-          (λ m. (omega arith, λ e. absurd (omega arith)))
-          (λ m. (omega arith, λ e. ap (λ x. Number (pos (value_of x))) (taken ((x ∷ a) ++ d) (x ∷ a) d len refl (sym e))))))
+    (by_true (Offers (length (x ∷ a)) (Number (pos (value_of (x ∷ a))))) (is_digit x) _ _ h.0
+    (by_cond (λ (n : ℕ). Offers (length (x ∷ a)) (Number (pos (value_of (x ∷ a)))) (Some (Number (pos (value_of (take len ((x ∷ a) ++ d)))), n))) (is_mark (drop len ((x ∷ a) ++ d))) _ _
+    (λ m. (omega arith, λ e. absurd (omega arith)))
+    (λ m. (omega arith, λ e. ap (λ x. Number (pos (value_of x))) (taken ((x ∷ a) ++ d) (x ∷ a) d len refl (sym e))))))
 offers c d k (marked [] h s) = absurd h
 offers c d k (marked (x ∷ a) h s) =
     let rest = (a ++ codes "n") ++ d in
@@ -159,10 +167,10 @@ offers c d k (marked (x ∷ a) h s) =
     let K : TokenKind = Number (pos (value_of (x ∷ a))) in
     let N : ℕ = length (x ∷ (a ++ codes "n")) in
     by_false (Offers N K) (is_letter x) _ _ (digit_no_letter x h.0)
-      (by_true (Offers N K) (is_digit x) _ _ h.0
-        (by_true (λ (n : ℕ). Offers N K (Some (Number (pos (value_of (take len (x ∷ rest)))), n))) (is_mark (drop len (x ∷ rest))) _ _
-          (ap is_mark (dropped (x ∷ rest) (x ∷ a) (110 ∷ d) len e l) ∙ mark_holds d s)
-          (omega arith, λ _. ap (λ v. Number (pos (value_of v))) (taken (x ∷ rest) (x ∷ a) (110 ∷ d) len e l))))
+    (by_true (Offers N K) (is_digit x) _ _ h.0
+    (by_true (λ (n : ℕ). Offers N K (Some (Number (pos (value_of (take len (x ∷ rest)))), n))) (is_mark (drop len (x ∷ rest))) _ _
+    (ap is_mark (dropped (x ∷ rest) (x ∷ a) (110 ∷ d) len e l) ∙ mark_holds d s)
+    (omega arith, λ _. ap (λ v. Number (pos (value_of v))) (taken (x ∷ rest) (x ∷ a) (110 ∷ d) len e l))))
 offers c d k (chars a h) =
     let rest = (a ++ 34 ∷ []) ++ d in
     let er : rest ≡ a ++ 34 ∷ d = append_assoc a (34 ∷ []) d in
@@ -170,8 +178,8 @@ offers c d k (chars a h) =
     let n : len ≡ length a = ap (prefix_len is_string_byte) er ∙ prefix_is is_string_byte a (34 ∷ d) h refl in
     let long : length (a ++ 34 ∷ []) ≡ length a + 1 = length-append a (34 ∷ []) in
     by_true (Offers (length (34 ∷ (a ++ 34 ∷ []))) (Chars a)) (starts_with (codes "\"") (drop len rest)) _ _
-      (ap (starts_with (codes "\"")) (dropped rest a (34 ∷ d) len er n))
-      (omega arith, λ _. ap Chars (taken rest a (34 ∷ d) len er n))
+    (ap (starts_with (codes "\"")) (dropped rest a (34 ∷ d) len er n))
+    (omega arith, λ _. ap Chars (taken rest a (34 ∷ d) len er n))
 offers c d k (symbol {a = a} h) = symbol_offers a d h
 
 pub spelled : (bs : List ℕ) → Spelled bs (form_of bs)
@@ -195,13 +203,18 @@ longest_form a c k h = go (form_of (a ++ c)) refl
 pub form_longest : (bs : List ℕ) (k : TokenKind) (n : ℕ) → form_of bs ≡ Some (k, n) → (a c : List ℕ) × (bs ≡ a ++ c) × (n ≡ length a) × IsLongest a c k
 form_longest bs k n e =
     let s = subst (Spelled bs) e (spelled bs) in
-    let l : n ≡ length s.0 = s.3 in
-    (s.0, s.1, s.2, l, record {
-      token = s.4;
-      longest = λ other behind j f t.
-        let o = subst (Offers (length other) j) (ap form_of (sym f ∙ sym s.2) ∙ e) (offers other behind j t) in
-        let o0 : length other ≤ n = o.0 in omega arith
-    })
+    let l : n ≡ length s.0 = s.3 in (
+      s.0,
+      s.1,
+      s.2,
+      l,
+      record {
+        token = s.4;
+        longest = λ other behind j f t.
+            let o = subst (Offers (length other) j) (ap form_of (sym f ∙ sym s.2) ∙ e) (offers other behind j t) in
+            let o0 : length other ≤ n = o.0 in omega arith;
+      },
+    )
 
 pub form_none : (bs : List ℕ) → form_of bs ≡ None → (front after : List ℕ) (k : TokenKind) → bs ≡ front ++ after → IsToken front after k → ⊥
 form_none bs e front after k f t = subst (Offers (length front) k) (ap form_of (sym f) ∙ e) (offers front after k t)

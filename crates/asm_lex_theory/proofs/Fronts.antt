@@ -1,19 +1,19 @@
 -- What stands at the front of a text.
-use Rattle.std.proofs.Common.{◌≡◌, ℕ, zero, suc, ◌+◌, ◌-◌, ◌^◌, ◌<◌, ◌≤◌, Bool, true, false, List, [], ◌∷◌, ◌++◌, length, take, drop, ◌⊎◌, inl, inr, sym, refl, ap, ◌∙◌, subst, arith, append_assoc, length-append, rules}
-use Rattle.std.specs.Prelude.{cond, if◌then◌else◌, ◌||◌, ◌&&◌, not, ◌==◌, nat_lt, codes, Option, Some, None, ℤ, pos, negsuc}
+use Rattle.std.proofs.Common.{◌≡◌, ℕ, ◌+◌, ◌^◌, ◌≤◌, Bool, true, false, List, [], ◌∷◌, ◌++◌, length, drop, sym, refl, ap, ◌∙◌, subst, arith, append_assoc, length-append}
+use Rattle.std.specs.Prelude.{cond, ◌==◌, codes, Option, Some, None, pos, negsuc}
 use Rattle.std.specs.Option.{option_map}
 use Rattle.std.specs.List.{prefix_len}
 use Rattle.std.proofs.lemmas.Bool.Decides.{nat_tests}
-use Rattle.asm_syntax.specs.Bytes.{is_letter, is_digit, is_word_byte, is_blank, is_string_byte, is_line_byte, Every, Stops, starts_with, value_of}
+use Rattle.asm_syntax.specs.Bytes.{is_blank, is_string_byte, is_line_byte, starts_with}
 use Rattle.asm_syntax.specs.Lexes.{HasNoEnd, IsGap, blank, line, block, begins_comment, begins_gap, IsToken, IsLongest, Fits, Refuses, open_comment, open_string, too_large, bad_byte}
 use Rattle.asm_syntax.specs.declared.token.TokenKind.{TokenKind}
 use Rattle.asm_syntax.specs.declared.token.TokenKind.TheVariants.{Id, Var, Number, Chars, Keyword, Refused, Symbol}
 use Rattle.asm_syntax.specs.declared.fault.Fault.{Fault}
-use Rattle.asm_syntax.specs.declared.fault.Fault.TheVariants.{OpenComment, OpenString, NumberTooLarge, BadByte}
+use Rattle.asm_syntax.specs.declared.fault.Fault.TheVariants.{OpenString, NumberTooLarge, BadByte}
 use Rattle.asm_lex_theory.specs.declared.Front.{Front}
 use Rattle.asm_lex_theory.specs.declared.Front.TheVariants.{Gap, Taken, Wrong}
-use Rattle.asm_lex_theory.specs.Scan.{block_len, block_front, Form, string_form, token_form, fits, token_front, front_of, front_on}
-use Rattle.asm_lex_theory.proofs.Lists.{by_cond, by_true, by_false, Split, split, prefix_is, taken, dropped, and_false, or_neither, or_none, eq_is, starts_two}
+use Rattle.asm_lex_theory.specs.Scan.{block_len, block_front, Form, token_form, fits, token_front, front_of, front_on}
+use Rattle.asm_lex_theory.proofs.Lists.{by_cond, by_true, by_false, split, prefix_is, dropped, and_false, or_neither, or_none, eq_is, starts_two}
 use Rattle.asm_lex_theory.proofs.Forms.{form_of, longest_form, form_longest, form_none}
 
 abbrev pub Stands : List ℕ → Front → Type 0
@@ -53,8 +53,8 @@ unfolding block_len
 block_is [] = tt
 block_is (b ∷ bs) =
     by_cond (Block (b ∷ bs)) (starts_with (codes "*/") (b ∷ bs)) _ _
-      (λ h. let e = starts_two 42 47 (b ∷ bs) h in ([], e.0, e.1, refl, (refl, tt)))
-      (λ h. block_step b bs (block_len bs) h (block_is bs))
+    (λ h. let e = starts_two 42 47 (b ∷ bs) h in ([], e.0, e.1, refl, (refl, tt)))
+    (λ h. block_step b bs (block_len bs) h (block_is bs))
 
 block_stands : (bs : List ℕ) → Stands (codes "/*" ++ bs) (block_front (block_len bs))
 unfolding block_len
@@ -72,7 +72,7 @@ unfolding block_len
 block_found [] c h = refl
 block_found (x ∷ a) c h =
     by_false (λ (o : Option ℕ). o ≡ Some (length (x ∷ a) + 2)) (starts_with (codes "*/") (x ∷ (a ++ 42 ∷ 47 ∷ c))) _ _ (end_not_here x a c h.0)
-      (ap (option_map (λ n. n + 1)) (block_found a c h.1) ∙ ap Some (omega arith))
+    (ap (option_map (λ n. n + 1)) (block_found a c h.1) ∙ ap Some (omega arith))
 
 block_none : (a : List ℕ) → HasNoEnd a → block_len a ≡ None
 unfolding block_len
@@ -123,7 +123,7 @@ open_stands rest e =
     let s = split is_string_byte rest in
     let len = prefix_len is_string_byte rest in
     subst (λ (x : List ℕ). Refuses (34 ∷ x) OpenString) (sym s.parts) (open_string s.front s.back s.all s.stops
-      (ap (starts_with (codes "\"")) (sym (dropped rest s.front s.back len s.parts s.len)) ∙ closed (starts_with (codes "\"") (drop len rest)) _ e))
+    (ap (starts_with (codes "\"")) (sym (dropped rest s.front s.back len s.parts s.len)) ∙ closed (starts_with (codes "\"") (drop len rest)) _ e))
   where
     closed : (v : Bool) (f : TokenKind × ℕ) → cond v (Some f) None ≡ None → v ≡ false
     closed false f e = refl
@@ -140,17 +140,17 @@ token_stands b rest g = go (token_form b rest) refl
     go (Some (k, n)) e =
         let l = form_longest (b ∷ rest) k n e in
         by_cond (Stands (b ∷ rest)) (fits k) _ _
-          (λ h. (l.0, l.1, l.2, l.3, g, l.4, fits_is k h))
-          (λ h. let big = large_is k h in too_large l.2 g (subst (IsLongest l.0 l.1) big.1 l.4) big.2)
+        (λ h. (l.0, l.1, l.2, l.3, g, l.4, fits_is k h))
+        (λ h. let big = large_is k h in too_large l.2 g (subst (IsLongest l.0 l.1) big.1 l.4) big.2)
 
 pub front_stands : (b : ℕ) (rest : List ℕ) → Stands (b ∷ rest) (front_of b rest)
 unfolding front_of token_front token_form block_len
 front_stands b rest =
     by_cond (Stands (b ∷ rest)) (is_blank b) _ _ (λ h. (b ∷ [], rest, refl, refl, blank h)) (λ i.
     by_cond (Stands (b ∷ rest)) (starts_with (codes "//") (b ∷ rest)) _ _
-      (λ h. let e = starts_two 47 47 (b ∷ rest) h in subst (λ (x : List ℕ). Stands x (Gap (prefix_len is_line_byte (drop 2 x) + 2))) (sym e.1) (line_stands e.0)) (λ j.
+    (λ h. let e = starts_two 47 47 (b ∷ rest) h in subst (λ (x : List ℕ). Stands x (Gap (prefix_len is_line_byte (drop 2 x) + 2))) (sym e.1) (line_stands e.0)) (λ j.
     by_cond (Stands (b ∷ rest)) (starts_with (codes "/*") (b ∷ rest)) _ _
-      (λ h. let e = starts_two 47 42 (b ∷ rest) h in subst (λ (x : List ℕ). Stands x (block_front (block_len (drop 2 x)))) (sym e.1) (block_stands e.0)) (λ k.
+    (λ h. let e = starts_two 47 42 (b ∷ rest) h in subst (λ (x : List ℕ). Stands x (block_front (block_len (drop 2 x)))) (sym e.1) (block_stands e.0)) (λ k.
     token_stands b rest (or_none _ _ i (or_none _ _ j k)))))
 
 -- ---- there is no other front
@@ -203,7 +203,7 @@ refuse_front bs f (open_string a b h s q) =
     let len = prefix_len is_string_byte (a ++ b) in
     let n : len ≡ length a = prefix_is is_string_byte a b h s in
     ap (token_front 34) (by_false (λ (o : Form). o ≡ None) (starts_with (codes "\"") (drop len (a ++ b))) _ _
-      (ap (starts_with (codes "\"")) (dropped (a ++ b) a b len refl n) ∙ q) refl)
+    (ap (starts_with (codes "\"")) (dropped (a ++ b) a b len refl n) ∙ q) refl)
 refuse_front bs f (too_large {a = a} {b = c} {n = n} e g l le) = large_front bs n (length a) g (ap form_of e ∙ longest_form a c (Number (pos n)) l) le
 refuse_front bs f (bad_byte {b = b} {bs = rest} g q none) =
     no_gap_front (b ∷ rest) g b rest refl ∙ ap (token_front b) (no_form (b ∷ rest) none) ∙ by_false (λ (v : Front). v ≡ Wrong BadByte) (b == 34) _ _ q refl

@@ -1,16 +1,15 @@
 -- What stands at a place of a text.
-use Rattle.std.proofs.Common.{◌≡◌, ℕ, zero, suc, ◌+◌, ◌-◌, ◌*◌, ◌/◌, ◌^◌, ◌<◌, ◌≤◌, Bool, true, false, List, [], ◌∷◌, ◌++◌, length, take, drop, get_or, sym, refl, ap, ◌∙◌, subst, arith, append_assoc, length-append, length-drop, rules, add-one, drop-cons}
+use Rattle.std.proofs.Common.{◌≡◌, ℕ, zero, suc, ◌+◌, ◌-◌, ◌*◌, ◌^◌, ◌<◌, ◌≤◌, true, false, List, [], ◌∷◌, ◌++◌, length, take, drop, get_or, sym, refl, ap, ◌∙◌, subst, arith, length-append, length-drop, add-one, drop-cons}
 use Rattle.std.specs.Prelude.{codes, Option, Some, None, fold}
 use Rattle.std.specs.Option.{option_map}
 use Rattle.std.proofs.lemmas.List.{drop-drop, take-append-drop}
 use Rattle.std.proofs.lemmas.List.Sums.{fold_more, fold-append}
 use Rattle.asm_syntax.specs.Bytes.{starts_with, value_of}
 use Rattle.asm_syntax.specs.declared.fault.Fault.{Fault}
-use Rattle.asm_syntax.specs.Lexes.{Stop, End, At, token_at}
+use Rattle.asm_syntax.specs.Lexes.{End, At, token_at}
 use Rattle.asm_syntax.specs.declared.token.TokenKind.{TokenKind}
-use Rattle.asm_lex_theory.specs.declared.Front.{Front}
 use Rattle.asm_lex_theory.specs.declared.Front.TheVariants.{Gap, Taken, Wrong}
-use Rattle.asm_lex_theory.specs.Scan.{front_of, front_on, block_len, Lexed, with_token, lexed_from}
+use Rattle.asm_lex_theory.specs.Scan.{front_on, block_len, with_token, lexed_from}
 use Rattle.asm_lex_theory.proofs.Lists.{by_true, by_false, dropped}
 use Rattle.asm_lex_theory.proofs.Fronts.{Stands, front_stands}
 use Rattle.asm_lex_theory.proofs.Whole.{gap_some, token_some, gap_step, token_step, refuse_step_at}
@@ -54,7 +53,7 @@ pub too_many : (bs : List ℕ) (i value : ℕ) → i < length bs → value ≡ v
 too_many bs i value h e large =
     let step : value_of (take (i + 1) bs) ≡ 10 * value_of (take i bs) + (get_or bs i 0 - 48) = fold_more (λ n b. 10 * n + (b - 48)) 0 bs i 0 h in
     let whole : value_of bs ≡ fold (λ n b. 10 * n + (b - 48)) (value_of (take (i + 1) bs)) (drop (i + 1) bs) =
-        ap value_of (sym (take-append-drop (i + 1) bs)) ∙ fold-append (λ n b. 10 * n + (b - 48)) 0 (take (i + 1) bs) (drop (i + 1) bs) in
+    ap value_of (sym (take-append-drop (i + 1) bs)) ∙ fold-append (λ n b. 10 * n + (b - 48)) 0 (take (i + 1) bs) (drop (i + 1) bs) in
     let more = grows (value_of (take (i + 1) bs)) (drop (i + 1) bs) in omega arith
 
 -- ---- a step of the reading

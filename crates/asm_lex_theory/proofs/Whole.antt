@@ -1,11 +1,9 @@
 -- A text is read in one way.
-use Rattle.std.proofs.Common.{◌≡◌, ℕ, zero, suc, ◌+◌, ◌-◌, ◌^◌, ◌<◌, ◌≤◌, Bool, true, false, List, [], ◌∷◌, ◌++◌, length, take, drop, ◌⊎◌, inl, inr, sym, refl, ap, ◌∙◌, subst, arith, append_assoc, length-append, rules}
-use Rattle.std.specs.Prelude.{cond, codes, Option, Some, None}
-use Rattle.asm_syntax.specs.Lexes.{IsGap, blank, line, block, begins_gap, IsToken, word, variable, number, marked, chars, symbol, IsLongest, Fits, Refuses, too_large, Stop, End, At, token_at, Lexes, end, gap, token, refusal}
+use Rattle.std.proofs.Common.{◌≡◌, ℕ, zero, suc, ◌+◌, ◌<◌, ◌≤◌, List, [], ◌∷◌, ◌++◌, length, sym, refl, ap, ◌∙◌, subst, arith, length-append}
+use Rattle.asm_syntax.specs.Lexes.{IsGap, blank, line, block, IsToken, word, variable, number, marked, chars, symbol, Refuses, too_large, Stop, At, token_at, Lexes, end, gap, token, refusal}
 use Rattle.asm_syntax.specs.declared.token.Token.{Token}
 use Rattle.asm_syntax.specs.declared.token.TokenKind.{TokenKind}
 use Rattle.asm_syntax.specs.declared.fault.Fault.{Fault}
-use Rattle.asm_syntax.specs.declared.fault.Fault.TheVariants.{OpenComment, OpenString, NumberTooLarge, BadByte}
 use Rattle.asm_lex_theory.specs.declared.Front.{Front}
 use Rattle.asm_lex_theory.specs.declared.Front.TheVariants.{Gap, Taken, Wrong}
 use Rattle.asm_lex_theory.specs.Scan.{front_of, front_on, Lexed, with_token, behind, lexed_from}

@@ -1,17 +1,16 @@
 -- Reading tokens from left to right.
-use Rattle.std.specs.Prelude.{slice_index, ◌≡◌, ℕ, zero, suc, ◌+◌, ◌*◌, ◌-◌, ◌^◌, ◌<◌, ◌≤◌, Bool, true, false, ◌&&◌, not, nat_le, nat_lt, ◌==◌, List, [], ◌∷◌, ◌++◌, length, take, drop, ◌⊎◌, ℤ, pos, codes, if◌then◌else◌, Option, Some, None}
+use Rattle.std.specs.Prelude.{slice_index, ℕ, zero, suc, ◌+◌, ◌-◌, ◌^◌, Bool, true, false, ◌&&◌, not, nat_lt, ◌==◌, List, [], ◌∷◌, ◌++◌, take, drop, pos, codes, if◌then◌else◌, Option, Some, None}
 use Rattle.std.specs.Option.{option_map}
 use Rattle.std.specs.List.{prefix_len}
-use Rattle.asm_syntax.specs.Bytes.{is_letter, is_digit, is_word_byte, is_blank, is_string_byte, is_line_byte, Every, Stops, starts_with, value_of}
-use Rattle.asm_syntax.specs.Words.{is_among, symbols, keywords, refused_words}
+use Rattle.asm_syntax.specs.Bytes.{is_letter, is_digit, is_word_byte, is_blank, is_string_byte, is_line_byte, starts_with, value_of}
+use Rattle.asm_syntax.specs.Words.{is_among, symbols}
 use Rattle.asm_syntax.specs.Lexes.{word_kind, Stop, End, At, token_at}
-use Rattle.asm_syntax.specs.declared.fault.Fault.{Fault}
 use Rattle.asm_syntax.specs.declared.fault.Fault.TheVariants.{OpenComment, OpenString, NumberTooLarge, BadByte}
 use Rattle.asm_lex_theory.specs.declared.Front.{Front}
 use Rattle.asm_lex_theory.specs.declared.Front.TheVariants.{Gap, Taken, Wrong}
 use Rattle.asm_syntax.specs.declared.token.Token.{Token}
 use Rattle.asm_syntax.specs.declared.token.TokenKind.{TokenKind}
-use Rattle.asm_syntax.specs.declared.token.TokenKind.TheVariants.{Id, Var, Number, Chars, Keyword, Refused, Symbol}
+use Rattle.asm_syntax.specs.declared.token.TokenKind.TheVariants.{Var, Number, Chars, Symbol}
 
 -- how many bytes come up to the end of the first "*/"
 unfoldable pub block_len : List ℕ → Option ℕ
