@@ -1,19 +1,19 @@
 -- From the function on lists to the relation.
-use Rattle.std.proofs.Common.{◌≡◌, ℕ, ◌+◌, ◌<◌, ◌≤◌, List, [], ◌∷◌, ◌++◌, length, drop, sym, refl, ap, ◌∙◌, subst, arith, append_assoc}
+use Rattle.std.proofs.Common.{◌≡◌, ◌≢◌, ℕ, ◌+◌, ◌<◌, ◌≤◌, List, [], ◌∷◌, ◌++◌, length, drop, sym, refl, ap, ◌∙◌, subst, arith, append_assoc}
 use Rattle.std.specs.Prelude.{Result, Ok, Err, IfOk, IfErr}
 use Rattle.asm_syntax.specs.declared.fault.Fault.{Fault}
 use Rattle.asm_syntax.specs.declared.fault.Fault.TheVariants as faults
 use Rattle.asm_syntax.specs.declared.token.Token.{Token}
 use Rattle.asm_syntax.specs.declared.token.TokenKind.{TokenKind}
 use Rattle.asm_syntax.specs.Lexes.{Stop, End, At, Lexes, token_at}
-use Rattle.asm_lex_theory.specs.declared.Front.{Front}
 use Rattle.asm_lex_theory.specs.declared.Front.TheVariants.{Gap, Taken, Wrong}
 use Rattle.asm_lex_theory.specs.Scan.{front_on, Lexed, with_token, lexed_from, after_tokens}
 use Rattle.asm_lex_theory.proofs.Whole.{lexes_is, reads}
 use Rattle.asm_lex_theory.proofs.Places.{gap_at, token_next, refused_at, ended_at}
 use Rattle.asm_lex.specs.declared.LexRefusal.{LexRefusal}
 use Rattle.asm_lex.specs.declared.LexRefusal.TheVariants.{TextTooLong, BadByte, OpenComment, OpenString, NumberTooLarge, NoMemory}
-use Rattle.asm_lex.specs.Answers.{most_bytes, AreTokens, StopsAt, IsFirst, IsRefusal, Answers, Tells, Gives}
+use Rattle.asm_syntax.specs.Texts.{most_bytes}
+use Rattle.asm_lex.specs.Answers.{AreTokens, HasNoTokens, StopsAt, IsFirst, IsRefusal, Answers, Tells, Gives}
 
 -- ---- steps of the loop
 
@@ -57,6 +57,18 @@ only_law text (Err (OpenComment n)) ts g a = absurd (let e = same_stop _ _ _ ts 
 only_law text (Err (OpenString n)) ts g a = absurd (let e = same_stop _ _ _ ts g (lexes_is 0 text ts End a.1) in cc)
 only_law text (Err (NumberTooLarge n)) ts g a = absurd (let e = same_stop _ _ _ ts g (lexes_is 0 text ts End a.1) in cc)
 
+no_tokens : (text : List ℕ) (e : LexRefusal) → ((ts : List Token) → AreTokens text ts → Answers (Err e) (Ok ts)) → (e ≢ NoMemory) → HasNoTokens text
+no_tokens text NoMemory only h ts a = absurd (h refl)
+no_tokens text (TextTooLong n) only h ts a = let e = only ts a in cc
+no_tokens text (BadByte n) only h ts a = let e = only ts a in cc
+no_tokens text (OpenComment n) only h ts a = let e = only ts a in cc
+no_tokens text (OpenString n) only h ts a = let e = only ts a in cc
+no_tokens text (NumberTooLarge n) only h ts a = let e = only ts a in cc
+
+pub none_law : (text : List ℕ) (r : Result (List Token) LexRefusal) → ((ts : List Token) → AreTokens text ts → Answers r (Ok ts)) → IfErr r (λ e. e ≢ NoMemory → HasNoTokens text)
+none_law text (Ok ts) only = tt
+none_law text (Err e) only = no_tokens text e only
+
 -- the refusal of a fault
 abbrev pub refusal_of : Fault → ℕ → LexRefusal
 refusal_of faults.OpenComment at = OpenComment at
@@ -89,18 +101,6 @@ first_law text r ts (BadByte at) h g a = stop_law text r ts faults.BadByte at g 
 first_law text r ts (OpenComment at) h g a = stop_law text r ts faults.OpenComment at g a
 first_law text r ts (OpenString at) h g a = stop_law text r ts faults.OpenString at g a
 first_law text r ts (NumberTooLarge at) h g a = stop_law text r ts faults.NumberTooLarge at g a
-
--- the same without a reading of the text: one that is too long
-pub long_tokens : (text : List ℕ) (n : ℕ) (ts : List Token) → most_bytes < length text → AreTokens text ts → Answers (Err (TextTooLong n)) (Ok ts)
-long_tokens text n ts h a = absurd (let short = a.0 in omega arith)
-
-pub long_first : (text : List ℕ) (n : ℕ) (ts : List Token) (e : LexRefusal) → most_bytes < length text → n ≡ length text → IsFirst text ts e → Answers (Err (TextTooLong n)) (Err e)
-long_first text n ts NoMemory h l a = absurd a
-long_first text n ts (TextTooLong m) h l a = ap (λ (x : ℕ). Err (TextTooLong x)) (l ∙ sym a.1)
-long_first text n ts (BadByte at) h l a = absurd (let short = a.0 in omega arith)
-long_first text n ts (OpenComment at) h l a = absurd (let short = a.0 in omega arith)
-long_first text n ts (OpenString at) h l a = absurd (let short = a.0 in omega arith)
-long_first text n ts (NumberTooLarge at) h l a = absurd (let short = a.0 in omega arith)
 
 pub refused_law : (text : List ℕ) (r : Result (List Token) LexRefusal) → length text ≤ most_bytes → Gives r (lexed_from text 0 0) → IfErr r (λ e. IsRefusal text e)
 refused_law text (Ok ts) h g = tt

@@ -5,13 +5,11 @@ ghost use Rattle.asm_syntax.specs.Bytes.{is_letter, is_digit};
 ghost use Rattle.asm_syntax.specs.Lexes.{word_kind};
 ghost use Rattle.asm_lex_theory.specs.Scan.{block_front, block_len, front_on, token_here};
 
-use std::alloc::{AllocError, Global};
-
-use asm_syntax::{Fault, Name, TokenKind};
-use asm_lex_theory::Front;
-use asm_words::{is_keyword, is_refused, is_symbol};
-
 use crate::runs::{self, Class};
+use asm_lex_theory::Front;
+use asm_syntax::{Fault, Name, TokenKind};
+use asm_words::{is_keyword, is_refused, is_symbol};
+use std::alloc::{AllocError, Global};
 
 /// What stands between two places.
 fn piece(alloc: Global, text: &str, from: usize, to: usize) -> Result<Name, AllocError>
@@ -23,6 +21,7 @@ fn piece(alloc: Global, text: &str, from: usize, to: usize) -> Result<Name, Allo
     Name::from_str(alloc, &text[from..to])
 }
 
+/// A word with its kind.
 fn word_kind(name: Name) -> TokenKind
     ensures { result ≡ word_kind name }
 {
@@ -35,6 +34,7 @@ fn word_kind(name: Name) -> TokenKind
     }
 }
 
+/// A letter, then letters and digits.
 fn word(alloc: Global, text: &str, at: usize) -> Result<Front, AllocError>
     requires within { at < length text.now }
     requires letter { is_letter (slice_index text.now at) ≡ true }
@@ -45,6 +45,7 @@ fn word(alloc: Global, text: &str, at: usize) -> Result<Front, AllocError>
     Ok(Front::Taken(word_kind(name), len))
 }
 
+/// Digits, and the `n` that belongs to them.
 fn number(bytes: &[u8], at: usize) -> Front
     requires within { at < length bytes.now }
     requires digit { is_digit (slice_index bytes.now at) ≡ true }
@@ -60,6 +61,7 @@ fn number(bytes: &[u8], at: usize) -> Front
     }
 }
 
+/// A `$` with a word directly behind it.
 fn variable(alloc: Global, text: &str, at: usize) -> Result<Front, AllocError>
     requires within { at < length text.now }
     requires letter { is_letter (slice_index text.now at) ≡ false }
@@ -79,6 +81,7 @@ fn variable(alloc: Global, text: &str, at: usize) -> Result<Front, AllocError>
     Ok(Front::Taken(TokenKind::Var(name), len + 1))
 }
 
+/// Two quotes, and what stands between them.
 fn string(alloc: Global, text: &str, at: usize) -> Result<Front, AllocError>
     requires within { at < length text.now }
     requires letter { is_letter (slice_index text.now at) ≡ false }
@@ -99,6 +102,7 @@ fn string(alloc: Global, text: &str, at: usize) -> Result<Front, AllocError>
     Ok(Front::Taken(TokenKind::Chars(name), len + 2))
 }
 
+/// The symbol of two bytes, or else that of one.
 fn symbol(alloc: Global, text: &str, at: usize) -> Result<Front, AllocError>
     requires within { at < length text.now }
     requires letter { is_letter (slice_index text.now at) ≡ false }
@@ -145,7 +149,7 @@ fn token(alloc: Global, text: &str, at: usize) -> Result<Front, AllocError>
     symbol(alloc, text, at)
 }
 
-/// What stands at a place.
+/// What stands at a place: a blank, a comment, the longest token, or a fault.
 pub(crate) fn front(alloc: Global, text: &str, at: usize) -> Result<Front, AllocError>
     requires { at < length text.now }
     ensures { IfOk result (λ f. f ≡ front_on (drop at text.now)) }
@@ -164,6 +168,7 @@ pub(crate) fn front(alloc: Global, text: &str, at: usize) -> Result<Front, Alloc
     token(alloc, text, at)
 }
 
+/// From a `/*` to the first `*/` behind it.
 fn comment(bytes: &[u8], at: usize) -> Front
     requires { at + 2 ≤ length bytes.now }
     ensures { result ≡ block_front (block_len (drop (at + 2) bytes.now)) }

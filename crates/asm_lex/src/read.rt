@@ -1,20 +1,23 @@
 //! The tokens of a text.
-ghost use Rattle.std.specs.Prelude.{◌≡◌,  ◌≤◌, length, IfOk, IfErr, Ok, Err, List, ℕ};
+ghost use Rattle.std.specs.Prelude.{◌≡◌, ◌≢◌, ◌≤◌, length, IfOk, IfErr, Ok, Err, List, ℕ, All, AllPairs};
 ghost use Rattle.asm_syntax.specs.declared.token.Token.{Token as Tokens};
 ghost use Rattle.asm_syntax.specs.Lexes.{At, Stop, Lexes};
 ghost use Rattle.asm_lex_theory.specs.Scan.{lexed_from};
 ghost use Rattle.asm_lex.specs.declared.LexRefusal.{LexRefusal as Refusal};
-ghost use Rattle.asm_lex.specs.Answers.{most_bytes, Tells, Gives, AreTokens, IsFirst, IsRefusal, Answers};
-
-use std::alloc::Global;
-
-use asm_syntax::{Fault, Row, Span, Token};
-use asm_lex_theory::Front;
+ghost use Rattle.asm_syntax.specs.Texts.{most_bytes};
+ghost use Rattle.asm_lex.specs.Answers.{Tells, Gives, AreTokens, IsFirst, IsRefusal, Answers, HasNoTokens};
+ghost use Rattle.asm_lex.specs.Spans.{StandsIn, Before, IsPlacedIn};
 
 use crate::LexRefusal;
 use crate::front::front;
+use asm_lex_theory::Front;
+use asm_syntax::{Fault, Row, Span, Token};
+use std::alloc::Global;
 
-fn refusal(fault: Fault, at: usize) -> LexRefusal
+/// The most bytes of a text.
+const MOST_BYTES: usize = 262_144;
+
+fn refusal(fault: Fault, at: u32) -> LexRefusal
     ensures { Tells result (At fault at) }
 {
     match fault {
@@ -42,27 +45,37 @@ fn read(alloc: Global, text: &str) -> Result<Row<Token>, LexRefusal>
                 tokens.push(Token { kind, span })?;
                 at += len;
             }
-            Front::Wrong(fault) => return Err(refusal(fault, at)),
+            Front::Wrong(fault) => return Err(refusal(fault, at as u32)),
         }
     }
     Ok(tokens)
 }
 
-/// The tokens of a text, or its first refusal.
+/// The tokens of a text, in text order, or its first refusal. Blanks and comments leave no token.
+/// Each token is the longest that begins where it does. Spans and places are byte offsets from the
+/// text's start.
 pub fn lex(alloc: Global, text: &str) -> Result<Row<Token>, LexRefusal>
+    // what is answered is so
     ensures tokens { IfOk result (λ tokens. AreTokens text.now tokens) }
     ensures refused { IfErr result (λ e. IsRefusal text.now e) }
+
+    // what is so is answered, unless memory runs out
     ensures only { (tokens : List Tokens) → AreTokens text.now tokens → Answers result (Ok tokens) }
     ensures first { (tokens : List Tokens) (e : Refusal) → IsFirst text.now tokens e → Answers result (Err e) }
+    ensures none { IfErr result (λ e. e ≢ LexRefusal.NoMemory → HasNoTokens text.now) }
+
+    // where it stands
+    ensures spans { IfOk result (λ tokens. All (StandsIn text.now) tokens) }
+    ensures ascending { IfOk result (λ tokens. AllPairs Before tokens) }
+    ensures placed { IfErr result (λ e. IsPlacedIn text.now e) }
 {
-    if text.len() > 262_144 {
+    if text.len() > MOST_BYTES {
         return Err(LexRefusal::TextTooLong(text.len()));
     }
     read(alloc, text)
 }
 
-/// A text is read in one way: it has one list of tokens and one first refusal at most.
+/// A text is read in one way: it has one list of tokens or one first refusal, and never both.
 pub fn one_reading()
     ensures { (text : List ℕ) (ts us : List Tokens) (s t : Stop) → Lexes 0 text ts s → Lexes 0 text us t → (ts ≡ us) × (s ≡ t) }
-{
-}
+{}

@@ -5,14 +5,19 @@ ghost use Rattle.asm_syntax.specs.Bytes.{is_letter, is_digit, is_blank, starts_w
 ghost use Rattle.asm_lex_theory.specs.Scan.{block_len, is_mark};
 ghost use Rattle.asm_lex.specs.Runs.{test_of, IsDecimal};
 
+/// The bytes that a run has.
 #[derive(Clone, Copy)]
 pub(crate) enum Class {
+    /// Letters, digits and `_`.
     Word,
     Digit,
+    /// What may stand between the quotes of a string.
     Chars,
+    /// All but a line feed.
     Line,
 }
 
+/// An ASCII letter or `_`.
 pub(crate) fn is_letter(byte: u8) -> bool
     ensures { result ≡ is_letter byte }
 {
@@ -67,7 +72,7 @@ pub(crate) fn begins(bytes: &[u8], at: usize, first: u8, second: u8) -> bool
     first == bytes[at] && at + 1 < bytes.len() && second == bytes[at + 1]
 }
 
-/// Up to the end of the first `*/` from a place on.
+/// How many bytes come up to the end of the first `*/` from a place on.
 pub(crate) fn block(bytes: &[u8], from: usize) -> Option<usize>
     requires { from ≤ length bytes.now }
     ensures value { result ≡ block_len (drop from bytes.now) }
@@ -83,7 +88,7 @@ pub(crate) fn block(bytes: &[u8], from: usize) -> Option<usize>
     None
 }
 
-/// The number that digits spell, if it is small enough.
+/// The number that digits spell, where it is at most 2^127 - 1.
 pub(crate) fn decimal(digits: &[u8]) -> Option<i128>
     ensures { IsDecimal (value_of digits.now) result }
 {

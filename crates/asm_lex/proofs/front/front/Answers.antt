@@ -1,11 +1,5 @@
-use Rattle.std.proofs.Common.{◌≡◌, ℕ, ◌+◌, ◌-◌, ◌<◌, ◌≤◌, ◌∷◌, [], ◌==◌, true, false, length, take, drop, get_or, arith, rules, sym, ap, ◌∙◌, subst, refl}
-use Rattle.std.specs.Prelude.{cond}
-use Rattle.std.specs.Str.{IsCharBoundary}
-use Rattle.std.specs.List.{prefix_len}
-use Rattle.std.proofs.lemmas.Str.{IsCharBoundary-after_ascii, IsCharBoundary-before_ascii}
-use Rattle.std.proofs.lemmas.Bool.Decides.{nat_tests}
-use Rattle.asm_syntax.specs.Bytes.{is_word_byte, is_string_byte, is_line_byte, is_digit}
-use Rattle.asm_lex_theory.proofs.Cases.{blank_here, line_here, block_at, token_at_front, run_cut, letter_ascii, word_done, number_done, large_done, variable_done, no_variable_end, no_variable, string_done, open_end, open_byte, symbol_long_done, symbol_end, symbol_short_here, symbol_one, symbol_bad, cut_behind_one, cut_behind_two}
+use Rattle.std.proofs.Common.{◌≡◌, ◌+◌, sym, ap, ◌∙◌, subst}
+use Rattle.asm_lex_theory.proofs.Cases.{blank_here, line_here, block_at, token_at_front}
 use Rattle.asm_lex_theory.specs.declared.Front.{Front}
 use Rattle.asm_lex_theory.specs.declared.Front.TheVariants.{Gap}
 use Rattle.std.specs.Prelude.{IfOk}

@@ -1,15 +1,10 @@
-use Rattle.std.proofs.Common.{◌≡◌, ℕ, ◌+◌, ◌-◌, ◌<◌, ◌≤◌, ◌∷◌, [], ◌==◌, true, false, length, take, drop, get_or, arith, rules, sym, ap, ◌∙◌, subst, refl}
+use Rattle.std.proofs.Common.{◌≡◌, ℕ, ◌+◌, ◌<◌, ap, ◌∙◌}
 use Rattle.std.specs.Prelude.{cond}
-use Rattle.std.specs.Str.{IsCharBoundary}
-use Rattle.std.specs.List.{prefix_len}
-use Rattle.std.proofs.lemmas.Str.{IsCharBoundary-after_ascii, IsCharBoundary-before_ascii}
-use Rattle.std.proofs.lemmas.Bool.Decides.{nat_tests}
-use Rattle.asm_syntax.specs.Bytes.{is_word_byte, is_string_byte, is_line_byte, is_digit}
-use Rattle.asm_lex_theory.proofs.Cases.{blank_here, line_here, block_at, token_at_front, run_cut, letter_ascii, word_done, number_done, large_done, variable_done, no_variable_end, no_variable, string_done, open_end, open_byte, symbol_long_done, symbol_end, symbol_short_here, symbol_one, symbol_bad, cut_behind_one, cut_behind_two}
+use Rattle.asm_lex_theory.proofs.Cases.{number_done, large_done}
 use Rattle.asm_lex.proofs.front.number.Goals as goal
 use Rattle.asm_lex.proofs.front.number.Goals.{then-marked, else-marked}
 use Rattle.asm_lex_theory.proofs.Lists.{by_true, by_false}
-use Rattle.std.proofs.lemmas.Int.{ints, to_z_pos}
+use Rattle.std.proofs.lemmas.Int.{to_z_pos}
 use Rattle.std.specs.Prelude.{ℤ, pos}
 use Rattle.std.proofs.Common.{◌^◌}
 use mir.Val.{to_z, of_z}
@@ -24,7 +19,8 @@ returns-in-None c = large_done c.args.bytes.now c.args.at c.run-len.result c.req
 pub returns-after-marked : goal.returns-after-marked
 returns-after-marked c =
     let r : c.if-marked.result ≡ cond c.marked-marked.result (c.run-len.result + 1 + 1) (c.run-len.result + 1) =
-      elim c.if-marked.branch [
-        then-marked w ↦ by_true (λ (x : ℕ). c.if-marked.result ≡ x) c.marked-marked.result _ _ w.if-marked.true w.result-is
-      | else-marked w ↦ by_false (λ (x : ℕ). c.if-marked.result ≡ x) c.marked-marked.result _ _ w.if-marked.false w.result-is ] in
+    elim c.if-marked.branch [
+      | then-marked w ↦ by_true (λ (x : ℕ). c.if-marked.result ≡ x) c.marked-marked.result _ _ w.if-marked.true w.result-is
+      | else-marked w ↦ by_false (λ (x : ℕ). c.if-marked.result ≡ x) c.marked-marked.result _ _ w.if-marked.false w.result-is
+    ] in
     number_done c.args.bytes.now c.args.at c.run-len.result c.if-marked.result _ c.marked-marked.result c.requires.within c.requires.digit c.run-len.ensures.len (read_back _ _ c.in-Some.ensures.0 c.in-Some.ensures.1) c.in-Some.ensures.1 c.marked-marked.ensures r

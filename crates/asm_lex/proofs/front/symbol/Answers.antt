@@ -1,11 +1,5 @@
-use Rattle.std.proofs.Common.{◌≡◌, ℕ, ◌+◌, ◌-◌, ◌<◌, ◌≤◌, ◌∷◌, [], ◌==◌, true, false, length, take, drop, get_or, arith, rules, sym, ap, ◌∙◌, subst, refl}
-use Rattle.std.specs.Prelude.{cond}
-use Rattle.std.specs.Str.{IsCharBoundary}
-use Rattle.std.specs.List.{prefix_len}
-use Rattle.std.proofs.lemmas.Str.{IsCharBoundary-after_ascii, IsCharBoundary-before_ascii}
-use Rattle.std.proofs.lemmas.Bool.Decides.{nat_tests}
-use Rattle.asm_syntax.specs.Bytes.{is_word_byte, is_string_byte, is_line_byte, is_digit}
-use Rattle.asm_lex_theory.proofs.Cases.{blank_here, line_here, block_at, token_at_front, run_cut, letter_ascii, word_done, number_done, large_done, variable_done, no_variable_end, no_variable, string_done, open_end, open_byte, symbol_long_done, symbol_end, symbol_short_here, symbol_one, symbol_bad, cut_behind_one, cut_behind_two}
+use Rattle.std.proofs.Common.{get_or, sym, ◌∙◌}
+use Rattle.asm_lex_theory.proofs.Cases.{symbol_long_done, symbol_end, symbol_short_here, symbol_one, symbol_bad, cut_behind_one, cut_behind_two}
 use Rattle.asm_lex.proofs.front.symbol.Goals as goal
 use Rattle.asm_lex.proofs.front.symbol.Goals.{then-at-bytes+else-is_symbol, else-at-bytes}
 
@@ -22,12 +16,14 @@ pub returns-then-is_symbol-2 : goal.returns-then-is_symbol-2
 returns-then-is_symbol-2 c =
     symbol_one c.args.text.now c.args.at c.in_ok-name-2.name c.requires.within (sym (rw c.as_bytes-bytes.ensures.value at c.is_symbol-2.ensures) ∙ c.if-is_symbol-2.true) c.in_ok-name-2.ensures
     ∙ elim c.if-at-bytes.branch [
-        then-at-bytes+else-is_symbol w ↦ symbol_short_here c.args.text.now c.args.at c.requires.letter c.requires.digit c.requires.dollar c.requires.quote (rw c.as_bytes-bytes.ensures.value at w.if-at-bytes.true) (sym (rw c.as_bytes-bytes.ensures.value at w.is_symbol.ensures) ∙ w.if-is_symbol.false)
-      | else-at-bytes w ↦ symbol_end c.args.text.now c.args.at c.requires.letter c.requires.digit c.requires.dollar c.requires.quote (rw c.as_bytes-bytes.ensures.value at w.if-at-bytes.false) ]
+      | then-at-bytes+else-is_symbol w ↦ symbol_short_here c.args.text.now c.args.at c.requires.letter c.requires.digit c.requires.dollar c.requires.quote (rw c.as_bytes-bytes.ensures.value at w.if-at-bytes.true) (sym (rw c.as_bytes-bytes.ensures.value at w.is_symbol.ensures) ∙ w.if-is_symbol.false)
+      | else-at-bytes w ↦ symbol_end c.args.text.now c.args.at c.requires.letter c.requires.digit c.requires.dollar c.requires.quote (rw c.as_bytes-bytes.ensures.value at w.if-at-bytes.false)
+    ]
 
 pub returns : goal.returns
 returns c =
     symbol_bad (get_or c.args.text.now c.args.at 0) (sym (rw c.as_bytes-bytes.ensures.value at c.is_symbol-2.ensures) ∙ c.if-is_symbol-2.false)
     ∙ elim c.if-at-bytes.branch [
-        then-at-bytes+else-is_symbol w ↦ symbol_short_here c.args.text.now c.args.at c.requires.letter c.requires.digit c.requires.dollar c.requires.quote (rw c.as_bytes-bytes.ensures.value at w.if-at-bytes.true) (sym (rw c.as_bytes-bytes.ensures.value at w.is_symbol.ensures) ∙ w.if-is_symbol.false)
-      | else-at-bytes w ↦ symbol_end c.args.text.now c.args.at c.requires.letter c.requires.digit c.requires.dollar c.requires.quote (rw c.as_bytes-bytes.ensures.value at w.if-at-bytes.false) ]
+      | then-at-bytes+else-is_symbol w ↦ symbol_short_here c.args.text.now c.args.at c.requires.letter c.requires.digit c.requires.dollar c.requires.quote (rw c.as_bytes-bytes.ensures.value at w.if-at-bytes.true) (sym (rw c.as_bytes-bytes.ensures.value at w.is_symbol.ensures) ∙ w.if-is_symbol.false)
+      | else-at-bytes w ↦ symbol_end c.args.text.now c.args.at c.requires.letter c.requires.digit c.requires.dollar c.requires.quote (rw c.as_bytes-bytes.ensures.value at w.if-at-bytes.false)
+    ]

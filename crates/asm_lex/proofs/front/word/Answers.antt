@@ -1,11 +1,8 @@
-use Rattle.std.proofs.Common.{◌≡◌, ℕ, ◌+◌, ◌-◌, ◌<◌, ◌≤◌, ◌∷◌, [], ◌==◌, true, false, length, take, drop, get_or, arith, rules, sym, ap, ◌∙◌, subst, refl}
-use Rattle.std.specs.Prelude.{cond}
+use Rattle.std.proofs.Common.{◌≡◌, ℕ, ◌+◌, drop, arith, sym, subst}
 use Rattle.std.specs.Str.{IsCharBoundary}
 use Rattle.std.specs.List.{prefix_len}
-use Rattle.std.proofs.lemmas.Str.{IsCharBoundary-after_ascii, IsCharBoundary-before_ascii}
-use Rattle.std.proofs.lemmas.Bool.Decides.{nat_tests}
-use Rattle.asm_syntax.specs.Bytes.{is_word_byte, is_string_byte, is_line_byte, is_digit}
-use Rattle.asm_lex_theory.proofs.Cases.{blank_here, line_here, block_at, token_at_front, run_cut, letter_ascii, word_done, number_done, large_done, variable_done, no_variable_end, no_variable, string_done, open_end, open_byte, symbol_long_done, symbol_end, symbol_short_here, symbol_one, symbol_bad, cut_behind_one, cut_behind_two}
+use Rattle.asm_syntax.specs.Bytes.{is_word_byte}
+use Rattle.asm_lex_theory.proofs.Cases.{run_cut, word_done}
 use Rattle.asm_lex.proofs.front.word.Goals as goal
 
 pub piece-requires-clause-to : goal.piece-requires-clause-to

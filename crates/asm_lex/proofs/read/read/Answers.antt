@@ -1,6 +1,5 @@
-use Rattle.std.proofs.Common.{◌≡◌, ℕ, ◌+◌, ◌-◌, ◌<◌, ◌≤◌, ◌∷◌, [], ◌++◌, List, length, take, drop, arith, rules, sym, ap, ◌∙◌, subst, refl}
+use Rattle.std.proofs.Common.{◌+◌, List, drop, arith, sym, ap, ◌∙◌}
 use Rattle.asm_syntax.specs.declared.token.Token.{Token}
-use Rattle.asm_lex.specs.Answers.{most_bytes}
 use Rattle.asm_lex_theory.specs.Scan.{lexed_from, after_tokens}
 use Rattle.asm_lex_theory.proofs.Places.{gap_moves, token_moves}
 use Rattle.asm_lex.proofs.Laws.{gap_keeps, token_keeps, wrong_tells, end_gives}
@@ -37,7 +36,7 @@ loop-at-preserved c =
     record {
       within = m.within;
       rest = token_keeps c.args.text.now (lexed_from c.args.text.now 0 0) c.loop-at.tokens c.loop-at.at c.in-Taken.len c.in-Taken.kind c.loop-at.invariant.rest c.loop-at-test.true f
-        ∙ ap (λ (ts : List Token). after_tokens ts (lexed_from (drop (c.loop-at.at + c.in-Taken.len) c.args.text.now) 0 (c.loop-at.at + c.in-Taken.len))) (sym c.in_ok-push-in-Taken.ensures.ok);
+          ∙ ap (λ (ts : List Token). after_tokens ts (lexed_from (drop (c.loop-at.at + c.in-Taken.len) c.args.text.now) 0 (c.loop-at.at + c.in-Taken.len))) (sym c.in_ok-push-in-Taken.ensures.ok);
     }
 
 pub returns-in-Wrong : goal.returns-in-Wrong

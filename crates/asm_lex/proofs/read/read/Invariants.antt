@@ -1,4 +1,4 @@
-use Rattle.std.proofs.Common.{◌≡◌, ℕ, ◌-◌, ◌≤◌, length, drop}
+use Rattle.std.proofs.Common.{◌≡◌, ◌-◌, ◌≤◌, length, drop}
 use Rattle.asm_lex_theory.specs.Scan.{lexed_from, after_tokens}
 use Rattle.asm_lex.proofs.read.read.Given as goal
 

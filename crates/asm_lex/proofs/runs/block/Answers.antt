@@ -1,4 +1,4 @@
-use Rattle.std.proofs.Common.{◌≡◌, ℕ, ◌+◌, ◌-◌, sym, ap, ◌∙◌, arith}
+use Rattle.std.proofs.Common.{◌+◌, ◌-◌, sym, ap, ◌∙◌, arith}
 use Rattle.std.specs.Prelude.{Some}
 use Rattle.std.specs.Option.{option_map}
 use Rattle.asm_lex_theory.specs.Scan.{block_len}
@@ -14,8 +14,8 @@ loop-at-preserved c = record {
   from = omega arith;
   within = omega arith;
   rest = c.loop-at.invariant.rest
-    ∙ ap (option_map (λ n. n + (c.loop-at.at - c.args.from))) (block_next c.args.bytes.now c.loop-at.at c.loop-at-test.true (sym c.begins.ensures.value ∙ c.if-begins.false))
-    ∙ shifted _ _ (block_len _) (omega arith);
+      ∙ ap (option_map (λ n. n + (c.loop-at.at - c.args.from))) (block_next c.args.bytes.now c.loop-at.at c.loop-at-test.true (sym c.begins.ensures.value ∙ c.if-begins.false))
+      ∙ shifted _ _ (block_len _) (omega arith);
 }
 
 pub returns-clause-value : goal.returns-clause-value

@@ -1,4 +1,4 @@
-use Rattle.std.proofs.Common.{◌≡◌, ℕ, ◌+◌, ◌-◌, ◌≤◌, length, drop}
+use Rattle.std.proofs.Common.{◌≡◌, ◌+◌, ◌-◌, ◌≤◌, length, drop}
 use Rattle.std.specs.Option.{option_map}
 use Rattle.asm_lex_theory.specs.Scan.{block_len}
 use Rattle.asm_lex.proofs.runs.block.Given as goal
