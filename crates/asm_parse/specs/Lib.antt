@@ -1,0 +1,4 @@
+pub mod Reads
+pub mod Nests
+pub mod Refusals
+pub mod Answers
