@@ -1,0 +1,4 @@
+pub mod Meaning
+pub mod Yields
+pub mod Typed
+pub mod Forms

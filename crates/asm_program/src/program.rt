@@ -1,0 +1,24 @@
+//! Programs: what is left of a tree once its names are numbers.
+use crate::trees::Rule;
+use asm_value::{Domain, List, Text};
+
+/// A controlled function without arguments.
+#[derive(Debug, Drop)]
+pub struct FunctionInfo {
+    /// As the text spells it.
+    pub name: Text,
+    /// The domain of its values. Undef, which it has where no value was given, is in none.
+    pub result: Domain,
+}
+
+/// A typed model: names differ and are declared, and domains agree. No field keeps this: whoever
+/// makes a program from a tree proves it.
+#[derive(Debug, Drop)]
+pub struct Program {
+    /// The model's name.
+    pub name: Text,
+    /// In text order. A function's number is its place here, from 0.
+    pub functions: List<FunctionInfo>,
+    /// The rule of a step.
+    pub main: Rule,
+}
