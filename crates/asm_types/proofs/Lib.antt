@@ -1,0 +1,4 @@
+pub mod Differ
+pub mod Find
+pub mod Maps
+pub mod Rules
