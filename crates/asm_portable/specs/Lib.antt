@@ -1,0 +1,6 @@
+pub mod Ports
+pub mod PortLaws
+pub mod Json
+pub mod JsonLaws
+pub mod Values
+pub mod ValuesLaws

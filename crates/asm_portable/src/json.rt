@@ -1,0 +1,74 @@
+//! The JSON of trees.
+ghost use Rattle.std.specs.Prelude.{◌≡◌, map, IfOk};
+ghost use Rattle.serde_json.specs.Data.{no_members};
+ghost use Rattle.serde_json.specs.View.{view, members_view};
+ghost use Rattle.asm_portable.specs.Json.{data_of, integer_data, json_text, put_all};
+ghost use Rattle.asm_portable.specs.JsonLaws.{field_data};
+
+use crate::port::{Field, Port};
+use asm_value::Text;
+use serde_json::{Map, Value};
+use std::alloc::{AllocError, Global};
+
+/// The compact JSON text of a tree. An integer that is neither one of 64 bits nor below 2^64
+/// stands as a string of its digits.
+#[tactic(auto, using(crate::proofs::Floats::no_float))]
+pub fn port_text(alloc: Global, port: &Port) -> Result<Text, AllocError>
+    ensures { IfOk result (λ text. text ≡ json_text port.now) }
+{
+    let text = tree_json(alloc, port)?.to_string(alloc)?;
+    Text::from_str(alloc, text.as_str())
+}
+
+fn integer_json(alloc: Global, number: i128) -> Result<Value, AllocError>
+    ensures { IfOk result (λ json. view json ≡ integer_data number) }
+{
+    if let Ok(natural) = u64::try_from(number) {
+        return Ok(Value::from(natural));
+    }
+    if let Ok(short) = i64::try_from(number) {
+        return Ok(Value::from(short));
+    }
+    Ok(Value::String(number.to_string(alloc)?))
+}
+
+#[cycle(json)]
+#[tactic(auto, using(crate::specs::JsonLaws::port_steps))]
+fn tree_json(alloc: Global, port: &Port) -> Result<Value, AllocError>
+    ensures { IfOk result (λ json. view json ≡ data_of port.now) }
+{
+    match port {
+        Port::Null => Ok(Value::Null),
+        Port::Bool(truth) => Ok(Value::Bool(*truth)),
+        Port::Int(number) => integer_json(alloc, *number),
+        Port::Text(text) => Value::try_from_str(alloc, text.as_str()),
+        Port::List(trees) => Ok(Value::Array(trees_json(alloc, trees.as_slice())?)),
+        Port::Fields(fields) => Ok(Value::Object(members_json(alloc, fields.as_slice())?)),
+    }
+}
+
+#[cycle(json)]
+#[tactic(auto, using(crate::specs::JsonLaws::port_steps))]
+fn trees_json(alloc: Global, trees: &[Port]) -> Result<Vec<Value>, AllocError>
+    ensures { IfOk result (λ items. map view items.items ≡ map data_of trees.now) }
+{
+    let mut items = Vec::new(alloc);
+    for tree in trees {
+        items.push(tree_json(alloc, tree)?)?;
+    }
+    Ok(items)
+}
+
+#[cycle(json)]
+#[tactic(auto, using(crate::specs::JsonLaws::port_steps))]
+fn members_json(alloc: Global, fields: &[Field]) -> Result<Map<String, Value>, AllocError>
+    ensures { IfOk result
+        (λ members. members_view members.entries ≡ put_all no_members (map field_data fields.now)) }
+{
+    let mut members = Map::new(alloc);
+    for field in fields {
+        let member = tree_json(alloc, &field.tree)?;
+        serde_json::put(&mut members, alloc, field.key.as_str(), member)?;
+    }
+    Ok(members)
+}

@@ -1,0 +1,12 @@
+//! Portable trees: values and replies as JSON has them.
+#![tactic(auto)]
+
+mod json;
+mod port;
+#[cfg(test)]
+mod tests;
+mod values;
+
+pub use json::port_text;
+pub use port::{Field, Port, push_field};
+pub use values::{port_of, ports_of};

@@ -1,0 +1,109 @@
+//! Portable trees.
+ghost use Rattle.std.specs.Prelude.{◌≡◌, [], ◌∷◌, ◌++◌, IfOk, OnOk, OnErr};
+ghost use Rattle.asm_portable.specs.Ports as spec;
+
+use asm_value::{List, Text};
+use std::alloc::{AllocError, Global};
+
+/// A portable tree: what JSON says, with integers and without floats.
+#[derive(Debug, Drop)]
+#[cycle(port)]
+pub enum Port {
+    Null,
+    Bool(bool),
+    Int(i128),
+    Text(Text),
+    List(List<Port>),
+    /// Ascending by key, without repeats.
+    Fields(List<Field>),
+}
+
+/// A tree under its key.
+#[derive(Debug, Drop)]
+#[cycle(port)]
+pub struct Field {
+    pub key: Text,
+    pub tree: Port,
+}
+
+impl Port {
+    /// A text as a tree.
+    pub fn from_text(alloc: Global, text: &str) -> Result<Port, AllocError>
+        ensures { IfOk result (λ port. port ≡ spec.text text.now) }
+    {
+        Ok(Port::Text(Text::from_str(alloc, text)?))
+    }
+
+    /// A natural number as a tree. Takes no memory.
+    pub fn from_number(number: u64) -> Port
+        ensures { result ≡ spec.number number }
+    {
+        Port::Int(i128::from(number))
+    }
+
+    /// An equal tree.
+    #[cycle(copy)]
+    #[tactic(auto, using(crate::specs::PortLaws::tree_steps))]
+    pub fn copy(&self, alloc: Global) -> Result<Port, AllocError>
+        ensures { IfOk result (λ port. port ≡ self.now) }
+    {
+        match self {
+            Port::Null => Ok(Port::Null),
+            Port::Bool(truth) => Ok(Port::Bool(*truth)),
+            Port::Int(number) => Ok(Port::Int(*number)),
+            Port::Text(text) => Ok(Port::Text(text.copy(alloc)?)),
+            Port::List(trees) => Ok(Port::List(copy_trees(alloc, trees.as_slice())?)),
+            Port::Fields(fields) => Ok(Port::Fields(copy_fields(alloc, fields.as_slice())?)),
+        }
+    }
+}
+
+#[cycle(copy)]
+fn copy_trees(alloc: Global, trees: &[Port]) -> Result<List<Port>, AllocError>
+    ensures { IfOk result (λ copies. copies ≡ trees.now) }
+{
+    let mut copies = List::new(alloc);
+    for tree in trees {
+        copies.push(tree.copy(alloc)?)?;
+    }
+    Ok(copies)
+}
+
+#[cycle(copy)]
+fn copy_fields(alloc: Global, fields: &[Field]) -> Result<List<Field>, AllocError>
+    ensures { IfOk result (λ copies. copies ≡ fields.now) }
+{
+    let mut copies = List::new(alloc);
+    for field in fields {
+        copies.push(Field {
+            key: field.key.copy(alloc)?,
+            tree: field.tree.copy(alloc)?,
+        })?;
+    }
+    Ok(copies)
+}
+
+impl Field {
+    /// A tree under a copy of the key.
+    pub fn new(alloc: Global, key: &str, tree: Port) -> Result<Field, AllocError>
+        ensures { IfOk result (λ field. field ≡ spec.field key.now tree) }
+    {
+        Ok(Field {
+            key: Text::from_str(alloc, key)?,
+            tree,
+        })
+    }
+}
+
+/// Puts a tree under a copy of the key behind the fields. On an error they are as they were.
+pub fn push_field(
+    alloc: Global,
+    fields: &mut List<Field>,
+    key: &str,
+    tree: Port,
+) -> Result<(), AllocError>
+    ensures ok { OnOk result (fields.new ≡ fields.old ++ spec.field key.now tree ∷ []) }
+    ensures err { OnErr result (fields.new ≡ fields.old) }
+{
+    fields.push(Field::new(alloc, key, tree)?)
+}
