@@ -1,0 +1,5 @@
+pub mod Runs
+pub mod Shown
+pub mod Refusals
+pub mod Replies
+pub mod Answers

@@ -1,0 +1,31 @@
+-- The bytes of a reply.
+use Rattle.std.specs.Prelude.{ℕ, List, [], ◌∷◌, ◌++◌, drop, codes}
+use Rattle.std.specs.Fmt.{decimal}
+use Rattle.asm_portable.specs.declared.port.Field.{Field}
+use Rattle.asm_portable.specs.Ports.{text, field, fields}
+use Rattle.asm_portable.specs.Json.{json_text}
+use Rattle.asm_board.specs.declared.reply.Body.{Body}
+use Rattle.asm_board.specs.declared.reply.Body.TheVariants as bodies
+use Rattle.asm_board.specs.declared.reply.Reply.{Reply}
+use Rattle.asm_board.specs.Refusals.{name_of, why_of}
+
+-- the fields of a reply besides its number
+abbrev pub body_fields : Body → List Field
+body_fields (bodies.Ok tree) = field (codes "ok") tree ∷ []
+body_fields (bodies.No refusal) = field (codes "no") (text (name_of refusal)) ∷ field (codes "why") (why_of refusal) ∷ []
+
+-- their JSON text behind its first brace
+abbrev pub tail_of : Body → List ℕ
+tail_of body = drop 1 (json_text (fields (body_fields body)))
+
+-- what a body is told by, after so many accepted changes
+abbrev pub reply_of : ℕ → Body → Reply
+reply_of at body = record { at = at; tail = tail_of body }
+
+-- The line of a reply: `{"at":`, the number, a comma, and the other fields.
+abbrev pub reply_text : Reply → List ℕ
+reply_text reply = codes "{\"at\":" ++ (decimal reply.at ++ 44 ∷ reply.tail)
+
+-- the line for which memory was wanting
+abbrev pub no_memory_text : List ℕ
+no_memory_text = codes "{\"no\":\"NoMemory\"}"
