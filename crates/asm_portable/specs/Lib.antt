@@ -4,3 +4,5 @@ pub mod Json
 pub mod JsonLaws
 pub mod Values
 pub mod ValuesLaws
+pub mod Weights
+pub mod WeightLaws

@@ -6,6 +6,7 @@ mod port;
 #[cfg(test)]
 mod tests;
 mod values;
+mod weight;
 
 pub use json::port_text;
 pub use port::{Field, Port, push_field};

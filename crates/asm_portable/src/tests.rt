@@ -1,5 +1,5 @@
-//! The texts of trees, and the trees of values.
-use crate::{Field, Port, port_of, port_text};
+//! The texts and the weights of trees, and the trees of values.
+use crate::{Field, Port, port_of, port_text, push_field};
 use asm_value::{DomainInfo, DomainKind, List, Text, Value};
 use std::alloc::{AllocError, Global};
 use std::test::Fail;
@@ -132,5 +132,51 @@ fn a_tuple_is_a_list(rt: HostRuntime) -> Result<(), Fail> {
     parts.push(Value::Set(List::new(alloc)))?;
     let tree = port_of(alloc, &domains(alloc)?, &Value::Tuple(parts))?;
     assert_eq!(rt; port_text(alloc, &tree)?.as_str(), "[null,true,\"x\",[]]");
+    Ok(())
+}
+
+fn long_text(alloc: Global, bytes: u32) -> Result<Port, AllocError> {
+    let mut text = Text::new(alloc);
+    for _ in 0..bytes {
+        text.push_str("x")?;
+    }
+    Ok(Port::Text(text))
+}
+
+fn one_field(alloc: Global, key: &str, tree: Port) -> Result<Port, AllocError> {
+    let mut fields = List::new(alloc);
+    push_field(alloc, &mut fields, key, tree)?;
+    Ok(Port::Fields(fields))
+}
+
+fn pair(alloc: Global, first: Port, second: Port) -> Result<Port, AllocError> {
+    let mut trees = List::new(alloc);
+    trees.push(first)?;
+    trees.push(second)?;
+    Ok(Port::List(trees))
+}
+
+#[test]
+fn a_tree_weighs_what_it_holds(rt: HostRuntime) -> Result<(), Fail> {
+    let alloc = rt.alloc();
+    let empty = Port::Fields(List::new(alloc));
+    let loaded = one_field(alloc, "out", one_field(alloc, "Q", empty)?)?;
+    let mut truths = List::new(alloc);
+    truths.push(Port::Bool(true))?;
+    for (tree, weight) in [
+        (Port::Null, 1),
+        (Port::Bool(false), 1),
+        (Port::from_number(7), 1),
+        (long_text(alloc, 31)?, 1),
+        (long_text(alloc, 32)?, 2),
+        (long_text(alloc, 64)?, 3),
+        (Port::List(List::new(alloc)), 1),
+        (pair(alloc, Port::Int(1), Port::from_text(alloc, "x")?)?, 3),
+        (Port::Fields(List::new(alloc)), 1),
+        (loaded, 5),
+        (one_field(alloc, "a", Port::List(truths))?, 4),
+    ] {
+        assert_eq!(rt; tree.weight(), weight, "{tree:?}");
+    }
     Ok(())
 }
