@@ -1,5 +1,12 @@
-pub mod Runs
-pub mod Shown
+pub mod Meanings
+pub mod Contents
 pub mod Refusals
 pub mod Replies
+pub mod Calls
+pub mod Slots
+pub mod Shown
+pub mod Changes
+pub mod Reads
+pub mod Boards
 pub mod Answers
+pub mod Ends

@@ -1,25 +1,115 @@
--- The refusals: their names, and what they say.
-use Rattle.std.specs.Prelude.{ℕ, List, [], ◌∷◌, codes}
+-- Refusals: what each says, and how the first of several is the outcome.
+use Rattle.std.specs.Prelude.{ℕ, List, [], ◌∷◌, ◌++◌, Bool, Option, Some, None, Result, Ok, Err, codes, if◌then◌else◌}
 use Rattle.asm_portable.specs.declared.port.Port.{Port}
-use Rattle.asm_portable.specs.Ports.{text, number, field, fields}
-use Rattle.asm_board.specs.declared.reply.Refusal.{Refusal}
-use Rattle.asm_board.specs.declared.reply.Refusal.TheVariants.{Unbuilt, BadText, Clash}
+use Rattle.asm_portable.specs.declared.port.Field.{Field}
+use Rattle.asm_portable.specs.Ports.{text, number, list, field, fields}
+use Rattle.asm_board.specs.declared.refusal.Refusal.{Refusal}
+use Rattle.asm_board.specs.declared.refusal.Refusal.TheVariants as no
+
+-- ---- names and reasons
 
 abbrev pub name_of : Refusal → List ℕ
-name_of (Unbuilt why) = codes "Unbuilt"
-name_of (BadText why) = codes "BadText"
-name_of (Clash why) = codes "Clash"
+name_of (no.Unbuilt why) = codes "Unbuilt"
+name_of (no.LineTooLong why) = codes "LineTooLong"
+name_of (no.BadJson why) = codes "BadJson"
+name_of (no.BadRequest why) = codes "BadRequest"
+name_of (no.BadName why) = codes "BadName"
+name_of (no.NameTaken why) = codes "NameTaken"
+name_of (no.ModelsFull why) = codes "ModelsFull"
+name_of (no.BadText why) = codes "BadText"
+name_of (no.UnknownModel why) = codes "UnknownModel"
+name_of (no.Clash why) = codes "Clash"
+name_of (no.JournalFull why) = codes "JournalFull"
 
 abbrev pub why_of : Refusal → Port
-why_of (Unbuilt why) = why
-why_of (BadText why) = why
-why_of (Clash why) = why
+why_of (no.Unbuilt why) = why
+why_of (no.LineTooLong why) = why
+why_of (no.BadJson why) = why
+why_of (no.BadRequest why) = why
+why_of (no.BadName why) = why
+why_of (no.NameTaken why) = why
+why_of (no.ModelsFull why) = why
+why_of (no.BadText why) = why
+why_of (no.UnknownModel why) = why
+why_of (no.Clash why) = why
+why_of (no.JournalFull why) = why
 
 -- the line asks for something that isn't built
 abbrev pub unbuilt : Refusal
-unbuilt = Unbuilt (fields [])
+unbuilt = no.Unbuilt (fields [])
+
+-- the line has more bytes than this
+abbrev pub line_too_long : ℕ → Refusal
+line_too_long limit = no.LineTooLong (fields (field (codes "limit") (number limit) ∷ []))
+
+-- the line isn't JSON
+abbrev pub bad_json : Refusal
+bad_json = no.BadJson (fields [])
+
+-- the first field that is missing or unfit, or the least that no such request has
+abbrev pub bad_request : List ℕ → Refusal
+bad_request key = no.BadRequest (fields (field (codes "field") (text key) ∷ []))
+
+-- the name is no identifier of 1 to 64 bytes
+abbrev pub bad_name : Refusal
+bad_name = no.BadName (fields [])
+
+abbrev pub model_is : List ℕ → Field
+model_is name = field (codes "model") (text name)
+
+-- the model exists, at this version
+abbrev pub name_taken : List ℕ → ℕ → Refusal
+name_taken name version = no.NameTaken (fields (model_is name ∷ field (codes "version") (number version) ∷ []))
+
+-- so many models exist
+abbrev pub models_full : ℕ → Refusal
+models_full limit = no.ModelsFull (fields (field (codes "limit") (number limit) ∷ []))
 
 -- the text is none of those that are built; no place is told yet
 abbrev pub bad_text : Refusal
-bad_text =
-    BadText (fields (field (codes "column") (number 1) ∷ field (codes "kind") (text (codes "Unbuilt")) ∷ field (codes "line") (number 1) ∷ field (codes "more") (text []) ∷ []))
+bad_text = no.BadText (fields
+    (field (codes "column") (number 1) ∷ field (codes "kind") (text (codes "Unbuilt")) ∷ field (codes "line") (number 1) ∷ field (codes "more") (text []) ∷ []))
+
+-- no such model exists
+abbrev pub unknown_model : List ℕ → Refusal
+unknown_model name = no.UnknownModel (fields (model_is name ∷ []))
+
+-- The model that a refusal names. In a run it has no name, and the number of the step is told.
+pub record Whose : Type 0 where
+  pub name : List ℕ
+  pub step : List Field
+
+abbrev pub of_model : List ℕ → Whose
+of_model name = record { name = name; step = [] }
+
+abbrev pub of_run : ℕ → Whose
+of_run step = record { name = []; step = field (codes "step") (number step) ∷ [] }
+
+-- the step's set gives this location two values
+abbrev pub clash_at : Whose → List Port → List ℕ → List Port → Refusal
+clash_at whose args function values = no.Clash (fields
+    (field (codes "args") (list args) ∷ field (codes "function") (text function) ∷ model_is whose.name ∷ whose.step ++ field (codes "values") (list values) ∷ []))
+
+-- the journal's weight and what the entry adds exceed its room
+abbrev pub journal_full : ℕ → ℕ → Refusal
+journal_full adds weight = no.JournalFull (fields (field (codes "adds") (number adds) ∷ field (codes "weight") (number weight) ∷ []))
+
+-- ---- the first of several
+
+-- something, or the first refusal
+abbrev pub Tried : Type 0 → Type 0
+Tried A = Result A Refusal
+
+-- goes on with what was found; a refusal is the outcome
+abbrev pub after : {A B : Type 0} → Tried A → (A → Tried B) → Tried B
+after (Ok x) go = go x
+after (Err why) go = Err why
+
+-- the test has to pass
+abbrev pub needs : Bool → Refusal → Tried (Unit {0})
+needs passes why = if passes then Ok tt else Err why
+
+-- there has to be one
+abbrev pub is_there : {A : Type 0} → Option A → Refusal → Tried A
+is_there (Some x) why = Ok x
+is_there None why = Err why

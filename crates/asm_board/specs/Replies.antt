@@ -18,9 +18,9 @@ body_fields (bodies.No refusal) = field (codes "no") (text (name_of refusal)) �
 abbrev pub tail_of : Body → List ℕ
 tail_of body = drop 1 (json_text (fields (body_fields body)))
 
--- what a body is told by, after so many accepted changes
+-- the reply that tells a body after so many entries
 abbrev pub reply_of : ℕ → Body → Reply
-reply_of at body = record { at = at; tail = tail_of body }
+reply_of at body = record { at = at; body = body; tail = tail_of body }
 
 -- The line of a reply: `{"at":`, the number, a comma, and the other fields.
 abbrev pub reply_text : Reply → List ℕ

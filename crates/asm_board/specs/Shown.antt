@@ -1,4 +1,4 @@
--- What a client is shown of a state and of a clash.
+-- What a client is shown of a model.
 use Rattle.std.specs.Prelude.{ℕ, ◌+◌, List, [], ◌∷◌, map, slice_get, codes, if◌then◌else◌}
 use Rattle.std.specs.Option.{option_map_or}
 use Rattle.asm_value.specs.declared.value.Value.{Value}
@@ -13,6 +13,12 @@ use Rattle.asm_portable.specs.declared.port.Port.{Port}
 use Rattle.asm_portable.specs.declared.port.Field.{Field}
 use Rattle.asm_portable.specs.Ports.{text, number, list, field, fields, ascending}
 use Rattle.asm_portable.specs.Values.{port_of}
+use Rattle.asm_board.specs.declared.board.Slot.{Slot}
+use Rattle.asm_board.specs.declared.refusal.Refusal.{Refusal}
+use Rattle.asm_board.specs.Refusals.{Whose, clash_at}
+use Rattle.asm_board.specs.Slots.{Models}
+
+-- ---- states
 
 -- the value of a function, under its name, where it is defined
 abbrev pub shown_value : List ℕ → Value → List Field → List Field
@@ -32,6 +38,22 @@ abbrev pub run_shown : Program → ℕ → StateMap → Port
 run_shown program steps state =
     fields (field (codes "domains") (fields []) ∷ field (codes "functions") (functions_shown program state) ∷ field (codes "steps") (number steps) ∷ [])
 
+-- what is shown of a model: it has no domains and no invariants
+abbrev pub state_shown : Slot → Port
+state_shown slot = fields
+    (field (codes "domains") (fields []) ∷ field (codes "functions") (functions_shown slot.content.program slot.content.state)
+    ∷ field (codes "invs") (list []) ∷ field (codes "version") (number slot.version) ∷ [])
+
+-- each name with its version
+abbrev pub models_shown : Models → Port
+models_shown models = list (map (λ s. list (text s.name ∷ number s.slot.version ∷ [])) models)
+
+-- a step tells the out functions of its model, and it has none
+abbrev pub out_shown : List ℕ → Port
+out_shown name = fields (field (codes "out") (fields (field name (fields []) ∷ [])) ∷ [])
+
+-- ---- clashes
+
 abbrev pub function_name : Program → ℕ → List ℕ
 function_name program f = option_map_or (λ info. info.name) (slice_get program.functions f) []
 
@@ -39,12 +61,7 @@ abbrev pub place_name : Program → Place → List ℕ
 place_name program (Function f) = function_name program f
 place_name program (Domain d) = []
 
--- the fields of a clash; a text that is run has no model's name
-abbrev pub clash_fields : Port → List ℕ → ℕ → Port → List Field
-clash_fields args function step values =
-    field (codes "args") args ∷ field (codes "function") (text function) ∷ field (codes "model") (text []) ∷ field (codes "step") (number step) ∷ field (codes "values") values ∷ []
-
 -- its location and its two values
-abbrev pub clash_shown : Program → ℕ → Location → Value → Value → Port
-clash_shown program step location first second =
-    fields (clash_fields (list (map (port_of []) location.args)) (place_name program location.place) step (list (port_of [] first ∷ port_of [] second ∷ [])))
+abbrev pub clash_shown : Whose → Program → Location → Value → Value → Refusal
+clash_shown whose program location first second =
+    clash_at whose (map (port_of []) location.args) (place_name program location.place) (port_of [] first ∷ port_of [] second ∷ [])

@@ -1,0 +1,15 @@
+use Rattle.std.proofs.Common.{rules, arith}
+use Rattle.asm_portable.specs.WeightLaws.{weight_steps}
+use Rattle.asm_board.proofs.call.Call.weight.Goals as goal
+
+pub returns-in-Run : goal.returns-in-Run
+returns-in-Run c = grind (arith, rules, weight_steps)
+
+pub returns-in-Load : goal.returns-in-Load
+returns-in-Load c = grind (arith, rules, weight_steps)
+
+pub returns-in-Step : goal.returns-in-Step
+returns-in-Step c = grind (arith, rules, weight_steps)
+
+pub returns-in-State : goal.returns-in-State
+returns-in-State c = grind (arith, rules, weight_steps)
