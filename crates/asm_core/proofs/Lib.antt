@@ -1,3 +1,7 @@
 pub mod Places
-pub mod Made
+pub mod Journals
+pub mod Kept
+pub mod Standing
+pub mod Answered
 pub mod Programs
+pub mod Stepping

@@ -1,10 +1,10 @@
 -- Which texts have no program, and what an answer says where it comes.
-use Rattle.std.proofs.Common.{◌≡◌, ◌≢◌, ℕ, ◌<◌, List, Option, Some, None, Result, Ok, Err, IfOk, length, subst, arith}
+use Rattle.std.proofs.Common.{◌≡◌, ℕ, List, None, subst}
 use Rattle.asm_syntax.specs.declared.tree.ModelTree.{ModelTree}
 use Rattle.asm_syntax.specs.Texts.{IsModel}
 use Rattle.asm_program.specs.declared.program.Program.{Program}
 use Rattle.asm_program.specs.Typed.{program_of}
-use Rattle.asm_board.specs.Answers.{IsProgram, most_run_bytes}
+use Rattle.asm_texts.specs.Texts.{IsProgram}
 
 -- a text without a tree
 pub no_tree : (text : List ℕ) → ((tree : ModelTree) → IsModel text tree → ⊥) → (program : Program) → IsProgram text program → ⊥
@@ -15,7 +15,3 @@ pub untyped : (text : List ℕ) (tree : ModelTree) → program_of tree ≡ None 
 untyped text tree none only program p =
     let same : program_of p.tree ≡ None = subst (λ t. program_of t ≡ None) (only p.tree p.model) none in
     cc (same, p.typed)
-
-pub if_ok : {T E : Type 0} (r : Result T E) (P Q : T → Type 0) → IfOk r P → ((x : T) → P x → Q x) → IfOk r Q
-if_ok (Ok x) P Q p f = f x p
-if_ok (Err e) P Q p f = tt

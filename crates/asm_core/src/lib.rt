@@ -1,10 +1,17 @@
 //! Answers to calls: the definitions of what each means, carried out.
 #![tactic(auto)]
 
-mod answers;
-mod run;
+mod changes;
+mod clashes;
+mod one;
+mod preparation;
+mod reads;
 mod shown;
+mod steps;
+mod stop;
 #[cfg(test)]
 mod tests;
+mod texts;
 
-pub use answers::answer;
+pub use one::One;
+pub use preparation::prepare;

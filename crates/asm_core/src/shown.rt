@@ -1,21 +1,17 @@
-//! What a client is shown of a run.
-ghost use Rattle.std.specs.Prelude.{◌≡◌, ◌<◌, ◌≤◌, [], ◌∷◌, map, length, IfOk, OnOk, IsTrue, insert, slice_set, if◌then◌else◌};
+//! What a client is shown.
+ghost use Rattle.std.specs.Prelude.{◌≡◌, ◌<◌, ◌≤◌, [], ◌∷◌, length, IfOk, OnOk, IsTrue, insert, slice_set, if◌then◌else◌};
 ghost use Rattle.asm_portable.specs.Ports as ports;
 ghost use Rattle.asm_portable.specs.Values.{port_of};
 ghost use Rattle.asm_portable.specs.declared.port.Field.{Field};
 ghost use Rattle.asm_value.specs.State.{value_at};
 ghost use Rattle.asm_program.specs.Meaning as meaning;
 ghost use Rattle.asm_board.specs.Shown as spec;
-ghost use Rattle.asm_board.specs.Answers.{outcome_body};
-ghost use Rattle.asm_core.specs.Ends.{outcome_of};
 ghost use Rattle.asm_core.specs.Named.{with_shown};
 
-use crate::run::RunEnd;
-use asm_board::{Body, Refusal};
-use asm_portable::{Field, Port};
+use asm_board::{NamedSlot, Slot};
+use asm_portable::{Field, Port, push_field};
 use asm_program::Program;
 use asm_state::State;
-use asm_updates::Clash;
 use asm_value::{Args, List, Location, Place, Text, Value};
 use std::alloc::{AllocError, Global};
 use std::cmp::Ordering;
@@ -99,8 +95,16 @@ fn defined(alloc: Global, program: &Program, state: &State) -> Result<Vec<Field>
     Ok(fields)
 }
 
+/// The defined functions, as a tree.
+fn functions_shown(alloc: Global, program: &Program, state: &State) -> Result<Port, AllocError>
+    requires { length program.now.functions ≤ 256 }
+    ensures { IfOk result (λ port. port ≡ spec.functions_shown program.now state.now) }
+{
+    Ok(Port::Fields(List::from_vec(defined(alloc, program, state)?)))
+}
+
 /// What a run shows of its last state.
-fn run_shown(
+pub fn run_shown(
     alloc: Global,
     program: &Program,
     steps: u64,
@@ -109,96 +113,53 @@ fn run_shown(
     requires { length program.now.functions ≤ 256 }
     ensures { IfOk result (λ port. port ≡ spec.run_shown program.now steps state.now) }
 {
-    let functions = List::from_vec(defined(alloc, program, state)?);
+    let functions = functions_shown(alloc, program, state)?;
     let domains = Field::new(alloc, "domains", Port::Fields(List::new(alloc)))?;
-    let functions = Field::new(alloc, "functions", Port::Fields(functions))?;
+    let functions = Field::new(alloc, "functions", functions)?;
     let steps = Field::new(alloc, "steps", Port::from_number(steps))?;
-    let fields = List::from_vec(vec![in alloc; domains, functions, steps]?);
+    Ok(Port::Fields(List::from_vec(vec![in alloc; domains, functions, steps]?)))
+}
+
+/// What is shown of a model.
+pub fn state_shown(alloc: Global, slot: &Slot) -> Result<Port, AllocError>
+    ensures { IfOk result (λ port. port ≡ spec.state_shown slot.now) }
+{
+    let content = slot.content.get();
+    let functions = functions_shown(alloc, content.program().get(), content.state())?;
+    let domains = Field::new(alloc, "domains", Port::Fields(List::new(alloc)))?;
+    let functions = Field::new(alloc, "functions", functions)?;
+    let invs = Field::new(alloc, "invs", Port::List(List::new(alloc)))?;
+    let version = Field::new(alloc, "version", Port::from_number(slot.version))?;
+    Ok(Port::Fields(List::from_vec(vec![in alloc; domains, functions, invs, version]?)))
+}
+
+/// A model's name with its version.
+fn model_shown(alloc: Global, model: &NamedSlot) -> Result<Port, AllocError>
+    ensures { IfOk result (λ port. port ≡ ports.list (ports.text model.now.name ∷ ports.number model.now.slot.version ∷ [])) }
+{
+    let name = Port::Text(model.name.copy(alloc)?);
+    let version = Port::from_number(model.slot.version);
+    Ok(Port::List(List::from_vec(vec![in alloc; name, version]?)))
+}
+
+/// Each model's name with its version.
+pub fn models_shown(alloc: Global, models: &[NamedSlot]) -> Result<Port, AllocError>
+    ensures { IfOk result (λ port. port ≡ spec.models_shown models.now) }
+{
+    let mut trees = List::new(alloc);
+    for model in models {
+        trees.push(model_shown(alloc, model)?)?;
+    }
+    Ok(Port::List(trees))
+}
+
+/// What a step tells: nothing of its model, which has no out functions.
+pub fn out_shown(alloc: Global, name: &str) -> Result<Port, AllocError>
+    ensures { IfOk result (λ port. port ≡ spec.out_shown name.now) }
+{
+    let mut models = List::new(alloc);
+    push_field(alloc, &mut models, name, Port::Fields(List::new(alloc)))?;
+    let mut fields = List::new(alloc);
+    push_field(alloc, &mut fields, "out", Port::Fields(models))?;
     Ok(Port::Fields(fields))
-}
-
-/// The name of the function at a place.
-fn place_name(alloc: Global, program: &Program, place: Place) -> Result<Text, AllocError>
-    ensures { IfOk result (λ name. name ≡ spec.place_name program.now place) }
-{
-    match place {
-        Place::Function(function) => match program.functions.as_slice().get(usize::from(function)) {
-            Some(info) => info.name.copy(alloc),
-            None => Ok(Text::new(alloc)),
-        },
-        Place::Domain(_) => Ok(Text::new(alloc)),
-    }
-}
-
-/// The trees of values, in their order.
-fn all_shown(alloc: Global, values: &[Value]) -> Result<List<Port>, AllocError>
-    ensures { IfOk result (λ ports. ports ≡ map (port_of []) values.now) }
-{
-    let mut ports = List::new(alloc);
-    for value in values {
-        ports.push(shown(alloc, value)?)?;
-    }
-    Ok(ports)
-}
-
-/// The two values of a clash.
-fn values_shown(alloc: Global, clash: &Clash) -> Result<Port, AllocError>
-    ensures { IfOk result (λ port. port ≡ ports.list (port_of [] clash.now.first ∷ port_of [] clash.now.second ∷ [])) }
-{
-    let mut values = List::new(alloc);
-    values.push(shown(alloc, &clash.first)?)?;
-    values.push(shown(alloc, &clash.second)?)?;
-    Ok(Port::List(values))
-}
-
-/// The fields of a clash, by name. A text that is run has no model's name.
-fn clash_fields(
-    alloc: Global,
-    args: Port,
-    function: Text,
-    step: u64,
-    values: Port,
-) -> Result<List<Field>, AllocError>
-    ensures { IfOk result (λ fields. fields ≡ spec.clash_fields args function step values) }
-{
-    let args = Field::new(alloc, "args", args)?;
-    let function = Field::new(alloc, "function", Port::Text(function))?;
-    let model = Field::new(alloc, "model", Port::Text(Text::new(alloc)))?;
-    let step = Field::new(alloc, "step", Port::from_number(step))?;
-    let values = Field::new(alloc, "values", values)?;
-    Ok(List::from_vec(vec![in alloc; args, function, model, step, values]?))
-}
-
-/// The location of a clash with its two values, and the step that has it.
-fn clash_shown(
-    alloc: Global,
-    program: &Program,
-    step: u64,
-    clash: &Clash,
-) -> Result<Port, AllocError>
-    ensures { IfOk result (λ port. port ≡ spec.clash_shown program.now step clash.now.location clash.now.first clash.now.second) }
-{
-    let args = all_shown(alloc, clash.location.args.as_slice())?;
-    let name = place_name(alloc, program, clash.location.place)?;
-    let values = values_shown(alloc, clash)?;
-    let fields = clash_fields(alloc, Port::List(args), name, step, values)?;
-    Ok(Port::Fields(fields))
-}
-
-/// How the end of a run is told.
-pub fn body_of(
-    alloc: Global,
-    program: &Program,
-    steps: u64,
-    end: &RunEnd,
-) -> Result<Body, AllocError>
-    requires { length program.now.functions ≤ 256 }
-    ensures { IfOk result (λ body. body ≡ outcome_body program.now steps (outcome_of end.now)) }
-{
-    match end {
-        RunEnd::Done(state) => Ok(Body::Ok(run_shown(alloc, program, steps, state)?)),
-        RunEnd::Clashes { step, clash } => Ok(Body::No(Refusal::Clash(clash_shown(
-            alloc, program, *step, clash,
-        )?))),
-    }
 }

@@ -1,27 +1,56 @@
 //! Whole answers, worked out by hand.
-use crate::answer;
+use crate::One;
 use asm_board::Call;
 use asm_value::Text;
-use std::alloc::Global;
+use std::alloc::{AllocError, Global};
 use std::test::Fail;
 
-fn tail_of(alloc: Global, text: &str, steps: u64) -> Result<Text, std::alloc::AllocError> {
+const Q: &str = "asm Q signature: controlled b: Boolean definitions: main rule r_Main = b := true";
+
+const X: &str =
+    "asm X signature: controlled x: Integer definitions: main rule r_Main = par x := 1 x := 2 endpar";
+
+fn run(alloc: Global, text: &str, steps: u64) -> Result<Call, AllocError> {
     let text = Text::from_str(alloc, text)?;
-    Ok(answer(alloc, &Call::Run { text, steps })?.tail)
+    Ok(Call::Run { text, steps })
+}
+
+fn load(alloc: Global, name: &str, text: &str) -> Result<Call, AllocError> {
+    let name = Text::from_str(alloc, name)?;
+    let text = Text::from_str(alloc, text)?;
+    Ok(Call::Load { name, text })
+}
+
+fn step(alloc: Global, formula: &str) -> Result<Call, AllocError> {
+    let formula = Text::from_str(alloc, formula)?;
+    Ok(Call::Step { formula })
+}
+
+fn state(alloc: Global, name: &str) -> Result<Call, AllocError> {
+    let name = Text::from_str(alloc, name)?;
+    Ok(Call::State { name })
+}
+
+/// What a server answers: at which front, and the text behind it.
+fn told(alloc: Global, one: &mut One, call: &Call) -> Result<(u64, Text), AllocError> {
+    let reply = one.answer(alloc, call)?;
+    Ok((reply.at, reply.tail))
 }
 
 #[test]
 fn a_run_is_told_as_its_text_says(rt: HostRuntime) -> Result<(), Fail> {
+    let alloc = rt.alloc();
+    let mut one = One::new(alloc, 0)?;
     let bad =
         "\"no\":\"BadText\",\"why\":{\"column\":1,\"kind\":\"Unbuilt\",\"line\":1,\"more\":\"\"}}";
     let rows = [
         (
-            "asm A signature: controlled b: Boolean definitions: main rule r_Main = b := true",
+            Q,
             1,
             "\"ok\":{\"domains\":{},\"functions\":{\"b\":true},\"steps\":1}}",
         ),
         (
-            "asm X signature: controlled x: Integer definitions: main rule r_Main = par x := 1 x := 2 endpar",
+            X,
             1,
             "\"no\":\"Clash\",\"why\":{\"args\":[],\"function\":\"x\",\"model\":\"\",\"step\":1,\"values\":[1,2]}}",
         ),
@@ -41,8 +70,89 @@ fn a_run_is_told_as_its_text_says(rt: HostRuntime) -> Result<(), Fail> {
             bad,
         ),
     ];
-    for (text, steps, tail) in rows {
-        assert_eq!(rt; tail_of(rt.alloc(), text, steps)?.as_str(), tail, "{text}");
+    for (text, steps, want) in rows {
+        let (at, tail) = told(alloc, &mut one, &run(alloc, text, steps)?)?;
+        assert_eq!(rt; at, 0, "{text}");
+        assert_eq!(rt; tail.as_str(), want, "{text}");
+    }
+    Ok(())
+}
+
+#[test]
+fn a_journal_takes_what_it_has_room_for(rt: HostRuntime) -> Result<(), Fail> {
+    let alloc = rt.alloc();
+    let mut one = One::new(alloc, 20)?;
+    let rows = [
+        (load(alloc, "Q", Q)?, 1, "\"ok\":\"loaded\"}"),
+        (
+            load(alloc, "Q", Q)?,
+            1,
+            "\"no\":\"NameTaken\",\"why\":{\"model\":\"Q\",\"version\":1}}",
+        ),
+        (
+            step(alloc, "Q")?,
+            1,
+            "\"no\":\"JournalFull\",\"why\":{\"adds\":11,\"weight\":10}}",
+        ),
+        (
+            step(alloc, "R")?,
+            1,
+            "\"no\":\"UnknownModel\",\"why\":{\"model\":\"R\"}}",
+        ),
+        (load(alloc, "1", Q)?, 1, "\"no\":\"BadName\",\"why\":{}}"),
+        (
+            state(alloc, "Q")?,
+            1,
+            "\"ok\":{\"domains\":{},\"functions\":{},\"invs\":[],\"version\":1}}",
+        ),
+        (Call::Models, 1, "\"ok\":[[\"Q\",1]]}"),
+    ];
+    for (call, front, want) in rows {
+        let (at, tail) = told(alloc, &mut one, &call)?;
+        assert_eq!(rt; at, front, "{want}");
+        assert_eq!(rt; tail.as_str(), want);
+    }
+    Ok(())
+}
+
+#[test]
+fn steps_change_their_model_and_a_33rd_has_no_place(rt: HostRuntime) -> Result<(), Fail> {
+    let alloc = rt.alloc();
+    let mut one = One::new(alloc, 8_388_608)?;
+    for number in 0..32u64 {
+        let mut name = Text::from_str(alloc, "m")?;
+        name.push_str(number.to_string(alloc)?.as_str())?;
+        let text = if number == 0 { X } else { Q };
+        let (at, _) = told(alloc, &mut one, &load(alloc, name.as_str(), text)?)?;
+        assert_eq!(rt; at, number + 1);
+    }
+    let rows = [
+        (
+            load(alloc, "m32", Q)?,
+            32,
+            "\"no\":\"ModelsFull\",\"why\":{\"limit\":32}}",
+        ),
+        (step(alloc, "m31")?, 33, "\"ok\":{\"out\":{\"m31\":{}}}}"),
+        (
+            state(alloc, "m31")?,
+            33,
+            "\"ok\":{\"domains\":{},\"functions\":{\"b\":true},\"invs\":[],\"version\":33}}",
+        ),
+        (
+            state(alloc, "m30")?,
+            33,
+            "\"ok\":{\"domains\":{},\"functions\":{},\"invs\":[],\"version\":31}}",
+        ),
+        (
+            step(alloc, "m0")?,
+            33,
+            "\"no\":\"Clash\",\"why\":{\"args\":[],\"function\":\"x\",\"model\":\"m0\",\"values\":[1,2]}}",
+        ),
+    ];
+    for (call, front, want) in rows {
+        let (at, tail) = told(alloc, &mut one, &call)?;
+        assert_eq!(rt; at, front, "{want}");
+        assert_eq!(rt; tail.as_str(), want);
     }
     Ok(())
 }

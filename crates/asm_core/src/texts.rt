@@ -1,14 +1,16 @@
-//! The answer to a call.
+//! The program of a text.
 ghost use Rattle.std.specs.Prelude.{◌≡◌, ◌≤◌, length, IfOk, MatchOption};
 ghost use Rattle.asm_program.specs.declared.program.Program.{Program as Programs};
-ghost use Rattle.asm_board.specs.Answers.{IsProgram, IsBody, IsReply, Ran, IsRefused};
-ghost use Rattle.asm_board.specs.declared.call.Call.TheVariants as calls;
+ghost use Rattle.asm_texts.specs.Texts.{IsProgram};
+ghost use Rattle.asm_board.specs.Changes as spec;
+ghost use Rattle.asm_core.specs.Comes.{Comes};
+ghost use Rattle.asm_core.specs.Language.{asmeta};
 
-use crate::run::run;
-use crate::shown::body_of;
-use asm_board::{Body, Call, Refusal, Reply};
+use crate::stop::Stop;
+use asm_board::Refusal;
 use asm_parse::{ParseRefusal, parse_model};
 use asm_program::Program;
+use asm_texts::{a_text_has_its_program, a_text_without_program};
 use asm_types::{TypeRefusal, check};
 use std::alloc::{AllocError, Global};
 
@@ -37,35 +39,15 @@ fn program_of(alloc: Global, text: &str) -> Result<Option<Program>, AllocError>
     }
 }
 
-/// What a run of a text is answered by.
-fn run_body(alloc: Global, text: &str, steps: u64) -> Result<Body, AllocError>
-    ensures { IfOk result (IsBody (calls.Run text.now steps)) }
+/// The program of a text, or the refusal of the text.
+pub fn program_in(alloc: Global, text: &str) -> Result<Program, Stop>
+    ensures tried { Comes (λ program. program) (spec.program_in asmeta text.now) result }
+    ensures few { IfOk result (λ program. length program.functions ≤ 256) }
 {
+    a_text_has_its_program();
+    a_text_without_program();
     match program_of(alloc, text)? {
-        Some(program) => {
-            let end = run(alloc, &program, steps)?;
-            body_of(alloc, &program, steps, &end)
-        }
-        None => Ok(Body::No(Refusal::bad_text(alloc)?)),
-    }
-}
-
-/// The reply to a run of a text.
-fn reply_to_run(alloc: Global, text: &str, steps: u64) -> Result<Reply, AllocError>
-    ensures { IfOk result (IsReply (calls.Run text.now steps)) }
-{
-    let body = run_body(alloc, text, steps)?;
-    Reply::new(alloc, 0, body)
-}
-
-/// The reply to a call. Nothing is kept between calls.
-///
-/// A text that is no typed model of those that are built is refused as `BadText`, and a step whose
-/// update set has a clash as `Clash`; nothing of such a step is fired.
-pub fn answer(alloc: Global, call: &Call) -> Result<Reply, AllocError>
-    ensures { IfOk result (IsReply call.now) }
-{
-    match call {
-        Call::Run { text, steps } => reply_to_run(alloc, text.as_str(), *steps),
+        Some(program) => Ok(program),
+        None => Err(Stop::Refused(Refusal::bad_text(alloc)?)),
     }
 }

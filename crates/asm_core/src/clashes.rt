@@ -1,0 +1,84 @@
+//! What a client is told of a clash.
+ghost use Rattle.std.specs.Prelude.{◌≡◌, [], ◌∷◌, ◌++◌, IfOk, OnOk};
+ghost use Rattle.asm_portable.specs.Ports as ports;
+ghost use Rattle.asm_portable.specs.Values.{port_of};
+ghost use Rattle.asm_board.specs.Refusals.{clash_at};
+ghost use Rattle.asm_board.specs.Shown as spec;
+ghost use Rattle.asm_core.specs.Whose.{whose_by, step_fields};
+
+use asm_board::Refusal;
+use asm_portable::{Field, Port, port_of, ports_of, push_field};
+use asm_program::Program;
+use asm_updates::ClashRef;
+use asm_value::{List, Place, Text, Value};
+use std::alloc::{AllocError, Global};
+
+/// The name of the function at a place.
+fn place_name(alloc: Global, program: &Program, place: Place) -> Result<Text, AllocError>
+    ensures { IfOk result (λ name. name ≡ spec.place_name program.now place) }
+{
+    match place {
+        Place::Function(function) => match program.functions.as_slice().get(usize::from(function)) {
+            Some(info) => info.name.copy(alloc),
+            None => Ok(Text::new(alloc)),
+        },
+        Place::Domain(_) => Ok(Text::new(alloc)),
+    }
+}
+
+/// The trees of two values.
+fn both_shown(alloc: Global, first: &Value, second: &Value) -> Result<List<Port>, AllocError>
+    ensures { IfOk result (λ trees. trees ≡ port_of [] first.now ∷ port_of [] second.now ∷ []) }
+{
+    let domains = List::new(alloc);
+    let first = port_of(alloc, &domains, first)?;
+    let second = port_of(alloc, &domains, second)?;
+    Ok(List::from_vec(vec![in alloc; first, second]?))
+}
+
+/// Puts the number of a run's step behind the fields, if there is one.
+fn push_step(alloc: Global, fields: &mut List<Field>, step: Option<u64>) -> Result<(), AllocError>
+    ensures { OnOk result (fields.new ≡ fields.old ++ step_fields step) }
+{
+    match step {
+        Some(step) => push_field(alloc, fields, "step", Port::from_number(step)),
+        None => Ok(()),
+    }
+}
+
+/// The refusal of a clash: of a model by its name, or of a run by the number of its step.
+fn clash_at(
+    alloc: Global,
+    name: &str,
+    step: Option<u64>,
+    args: List<Port>,
+    function: Text,
+    values: List<Port>,
+) -> Result<Refusal, AllocError>
+    ensures { IfOk result (λ refusal. refusal ≡ clash_at (whose_by name.now step) args function values) }
+{
+    let mut fields = List::new(alloc);
+    push_field(alloc, &mut fields, "args", Port::List(args))?;
+    push_field(alloc, &mut fields, "function", Port::Text(function))?;
+    push_field(alloc, &mut fields, "model", Port::from_text(alloc, name)?)?;
+    push_step(alloc, &mut fields, step)?;
+    push_field(alloc, &mut fields, "values", Port::List(values))?;
+    Ok(Refusal::Clash(Port::Fields(fields)))
+}
+
+/// The refusal of a clash, with its location and its two values.
+pub fn clash_shown(
+    alloc: Global,
+    name: &str,
+    step: Option<u64>,
+    program: &Program,
+    clash: &ClashRef<'_>,
+) -> Result<Refusal, AllocError>
+    ensures { IfOk result (λ refusal. refusal
+        ≡ spec.clash_shown (whose_by name.now step) program.now clash.now.location.now clash.now.first.now clash.now.second.now) }
+{
+    let args = ports_of(alloc, &List::new(alloc), clash.location.args.as_slice())?;
+    let function = place_name(alloc, program, clash.location.place)?;
+    let values = both_shown(alloc, clash.first, clash.second)?;
+    clash_at(alloc, name, step, args, function, values)
+}

@@ -1,0 +1,42 @@
+//! Reads: what a client is shown of texts and models.
+ghost use Rattle.std.specs.Prelude.{◌≡◌};
+ghost use Rattle.asm_board.specs.Changes as changes;
+ghost use Rattle.asm_board.specs.Reads as spec;
+ghost use Rattle.asm_core.specs.Comes.{Comes};
+ghost use Rattle.asm_core.specs.Language.{asmeta};
+
+use crate::shown::{run_shown, state_shown};
+use crate::steps::steps;
+use crate::stop::Stop;
+use crate::texts::program_in;
+use asm_board::{Board, Refusal, Slot};
+use asm_portable::Port;
+use asm_value::Text;
+use std::alloc::Global;
+
+/// The model of a name, or the refusal of the name.
+pub fn found<'a>(alloc: Global, board: &'a Board, name: &Text) -> Result<&'a Slot, Stop>
+    ensures { Comes (λ slot. slot.now) (changes.found asmeta board.now.slots name.now) result }
+{
+    match board.slot(name) {
+        Some(slot) => Ok(slot),
+        None => Err(Stop::Refused(Refusal::unknown_model(alloc, name.as_str())?)),
+    }
+}
+
+/// What so many steps of a text show.
+pub fn run(alloc: Global, text: &str, count: u64) -> Result<Port, Stop>
+    ensures { Comes (λ tree. tree) (spec.run asmeta text.now count) result }
+{
+    let program = program_in(alloc, text)?;
+    let state = steps(alloc, &program, count)?;
+    Ok(run_shown(alloc, &program, count, &state)?)
+}
+
+/// What a model shows.
+pub fn state(alloc: Global, board: &Board, name: &Text) -> Result<Port, Stop>
+    ensures { Comes (λ tree. tree) (spec.state asmeta board.now.slots name.now) result }
+{
+    let slot = found(alloc, board, name)?;
+    Ok(state_shown(alloc, slot)?)
+}
