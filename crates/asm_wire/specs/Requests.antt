@@ -1,48 +1,201 @@
 -- What a line asks for.
-use Rattle.std.specs.Prelude.{◌≡◌, ℕ, suc, ◌&&◌, ◌==◌, List, codes, IsUtf8, nat_le, if◌then◌else◌, Option, Some, None, option_and_then, Bool, false}
+use Rattle.std.specs.Prelude.{◌≡◌, ℕ, Bool, true, false, not, ◌&&◌, ◌||◌, ◌⊎◌, nat_le, List, [], ◌∷◌, codes, IsUtf8, if◌then◌else◌, Option, Some, None, option_and_then, is_some, is_none, Ok, Err}
+use Rattle.std.specs.List.{list_any}
 use Rattle.std.specs.Str.{bytes_eq}
-use Rattle.serde_json.specs.Data.{Data, Members, no_members, member}
-use Rattle.serde_json.specs.Find.{get, as_object, as_str, as_number, as_u64}
+use Rattle.serde_json.specs.Data.{Data, null, boolean, number, string, array, object, Items, no_items, item, Members, no_members, member}
+use Rattle.serde_json.specs.Find.{get, as_object, as_str, as_number, as_u64, is_float}
 use Rattle.serde_json.specs.Read.{read}
 use Rattle.asm_board.specs.declared.call.Call.{Call}
-use Rattle.asm_board.specs.declared.call.Call.TheVariants.{Run}
+use Rattle.asm_board.specs.declared.call.Call.TheVariants as call
+use Rattle.asm_board.specs.Refusals.{Tried, after, needs, is_there, bad_json, bad_request, unbuilt}
+use Rattle.asm_board.specs.Changes.{is_identifier}
+
+-- ---- fields
+
+abbrev pub string_at : List ℕ → Data → Option (List ℕ)
+string_at key request = option_and_then as_str (get key request)
+
+abbrev pub natural_of : Data → Option ℕ
+natural_of d = option_and_then as_u64 (as_number d)
+
+abbrev pub within : ℕ → Option ℕ → Option ℕ
+within most None = None
+within most (Some n) = if nat_le n most then Some n else None
+
+-- a string that has to be there
+abbrev pub string_in : List ℕ → Data → Tried (List ℕ)
+string_in key request = is_there (string_at key request) (bad_request key)
+
+-- a whole number from 0 to this, which has to be there
+abbrev pub number_in : ℕ → List ℕ → Data → Tried ℕ
+number_in most key request = is_there (within most (option_and_then natural_of (get key request))) (bad_request key)
+
+abbrev pub fits_if_there : (Data → Bool) → Option Data → Bool
+fits_if_there fits None = true
+fits_if_there fits (Some d) = fits d
+
+-- a field that may be there, and fits then
+abbrev pub optional : (Data → Bool) → List ℕ → Data → Tried (Unit {0})
+optional fits key request = needs (fits_if_there fits (get key request)) (bad_request key)
+
+-- a whole number from 0 to 2^64 - 1
+abbrev pub is_natural : Data → Bool
+is_natural d = is_some (natural_of d)
+
+-- null, or such a number
+abbrev pub is_pick : Data → Bool
+is_pick null = true
+is_pick (boolean b) = false
+is_pick (number n) = is_natural (number n)
+is_pick (string s) = false
+is_pick (array ds) = false
+is_pick (object ms) = false
+
+-- some number in it is no whole number of 64 bits
+abbrev mutual
+  pub has_float : Data → Bool
+  has_float null = false
+  has_float (boolean b) = false
+  has_float (number n) = is_float n
+  has_float (string s) = false
+  has_float (array ds) = items_have_float ds
+  has_float (object ms) = members_have_float ms
+
+  pub items_have_float : Items → Bool
+  items_have_float no_items = false
+  items_have_float (item d ds) = has_float d || items_have_float ds
+
+  pub members_have_float : Members → Bool
+  members_have_float no_members = false
+  members_have_float (member key d ms) = has_float d || members_have_float ms
+
+-- each member is an object in which no such number is
+abbrev pub are_objects : Members → Bool
+are_objects no_members = true
+are_objects (member key d ms) = (is_some (as_object d) && not (has_float d)) && are_objects ms
+
+abbrev pub are_inputs : Option Members → Bool
+are_inputs None = false
+are_inputs (Some ms) = are_objects ms
+
+-- an object of objects
+abbrev pub is_inputs : Data → Bool
+is_inputs d = are_inputs (as_object d)
+
+-- the first key that isn't among these; keys ascend
+abbrev pub first_other : List (List ℕ) → Members → Option (List ℕ)
+first_other keys no_members = None
+first_other keys (member key d ms) = if list_any (bytes_eq key) keys then first_other keys ms else Some key
+
+abbrev pub no_other : Option (List ℕ) → Tried (Unit {0})
+no_other None = Ok tt
+no_other (Some key) = Err (bad_request key)
+
+abbrev pub others_in : List (List ℕ) → Option Members → Option (List ℕ)
+others_in keys None = None
+others_in keys (Some ms) = first_other keys ms
+
+-- it has no field but these
+abbrev pub only : List (List ℕ) → Data → Tried (Unit {0})
+only keys request = no_other (others_in keys (as_object request))
+
+-- the field isn't there; it isn't built
+abbrev pub without : List ℕ → Data → Tried (Unit {0})
+without key request = needs (is_none (get key request)) unbuilt
+
+-- ---- operations
 
 -- the most steps of a run
 abbrev pub most_steps : ℕ
 most_steps = 64
 
-abbrev pub string_at : List ℕ → Data → Option (List ℕ)
-string_at key value = option_and_then as_str (get key value)
+abbrev pub run_in : Data → Tried Call
+run_in request =
+    after (string_in (codes "text") request) (λ text.
+    after (number_in most_steps (codes "steps") request) (λ steps.
+    after (optional is_pick (codes "pick") request) (λ _.
+    after (optional is_natural (codes "since") request) (λ _.
+    after (only (codes "op" ∷ codes "pick" ∷ codes "since" ∷ codes "steps" ∷ codes "text" ∷ []) request) (λ _.
+    after (without (codes "pick") request) (λ _.
+    after (without (codes "since") request) (λ _.
+    Ok (call.Run text steps))))))))
 
-abbrev pub number_at : List ℕ → Data → Option ℕ
-number_at key value = option_and_then as_u64 (option_and_then as_number (get key value))
+abbrev pub load_in : Data → Tried Call
+load_in request =
+    after (string_in (codes "name") request) (λ name.
+    after (string_in (codes "text") request) (λ text.
+    after (only (codes "name" ∷ codes "op" ∷ codes "text" ∷ []) request) (λ _.
+    Ok (call.Load name text))))
 
-abbrev pub count_of : Members → ℕ
-count_of no_members = 0
-count_of (member key tree members) = suc (count_of members)
+-- a formula of more than one name isn't built
+abbrev pub step_in : Data → Tried Call
+step_in request =
+    after (string_in (codes "formula") request) (λ formula.
+    after (optional is_inputs (codes "inputs") request) (λ _.
+    after (optional is_pick (codes "pick") request) (λ _.
+    after (only (codes "formula" ∷ codes "inputs" ∷ codes "op" ∷ codes "pick" ∷ []) request) (λ _.
+    after (without (codes "inputs") request) (λ _.
+    after (without (codes "pick") request) (λ _.
+    after (needs (is_identifier formula) unbuilt) (λ _.
+    Ok (call.Step formula))))))))
 
-abbrev pub has_three : Option Members → Bool
-has_three None = false
-has_three (Some members) = count_of members == 3
+abbrev pub state_in : Data → Tried Call
+state_in request =
+    after (string_in (codes "name") request) (λ name.
+    after (optional is_natural (codes "since") request) (λ _.
+    after (only (codes "name" ∷ codes "op" ∷ codes "since" ∷ []) request) (λ _.
+    after (without (codes "since") request) (λ _.
+    Ok (call.State name)))))
 
--- a run of a text, where these are its fields
-abbrev pub run_by : Option (List ℕ) → Option ℕ → Option (List ℕ) → Option Call
-run_by (Some op) (Some steps) (Some text) = if bytes_eq op (codes "run") && nat_le steps most_steps then Some (Run text steps) else None
-run_by None steps text = None
-run_by (Some op) None text = None
-run_by (Some op) (Some steps) None = None
+abbrev pub models_in : Data → Tried Call
+models_in request =
+    after (optional is_natural (codes "since") request) (λ _.
+    after (only (codes "op" ∷ codes "since" ∷ []) request) (λ _.
+    after (without (codes "since") request) (λ _.
+    Ok call.Models)))
 
--- an object with exactly the fields `op`, `steps` and `text`
-abbrev pub call_of : Data → Option Call
-call_of value =
-    if has_three (as_object value)
-    then run_by (string_at (codes "op") value) (number_at (codes "steps") value) (string_at (codes "text") value) else None
+-- the operations that aren't built
+abbrev pub later_operations : List (List ℕ)
+later_operations =
+    codes "unload" ∷ codes "value" ∷ codes "text" ∷ codes "log" ∷ codes "addinv" ∷ codes "dropinv" ∷ codes "rollback" ∷ codes "swap" ∷ []
 
--- The line is UTF-8 and JSON, and asks for this call.
-abbrev pub Asks : List ℕ → Call → Type 0
-Asks line call = IsUtf8 line × (option_and_then call_of (read line) ≡ Some call)
+abbrev pub other_in : List ℕ → Tried Call
+other_in op = Err (if list_any (bytes_eq op) later_operations then unbuilt else bad_request (codes "op"))
 
--- it asks for the call that was read, or for none
-abbrev pub Requests : List ℕ → Option Call → Type 0
-Requests line (Some call) = Asks line call
-Requests line None = (call : Call) → Asks line call → ⊥
+abbrev pub call_by : List ℕ → Data → Tried Call
+call_by op request =
+    if bytes_eq op (codes "run") then run_in request
+    else (if bytes_eq op (codes "load") then load_in request
+    else (if bytes_eq op (codes "step") then step_in request
+    else (if bytes_eq op (codes "state") then state_in request
+    else (if bytes_eq op (codes "models") then models_in request
+    else other_in op))))
+
+-- the call for which a JSON tree asks, or the first reason why it asks for none
+unfoldable pub call_in : Data → Tried Call
+call_in request =
+    after (needs (is_some (as_object request)) (bad_request [])) (λ _.
+    after (string_in (codes "op") request) (λ op.
+    call_by op request))
+
+-- ---- lines
+
+-- the line is UTF-8, and the JSON of this tree
+pub record IsJson (line : List ℕ) (tree : Data) : Type 0 where
+  pub utf8 : IsUtf8 line
+  pub reads : read line ≡ Some tree
+
+-- the line is JSON, and asks for this
+pub record AsksIn (line : List ℕ) (asked : Tried Call) : Type 0 where
+  pub tree : Data
+  pub is_json : IsJson line tree
+  pub asks : asked ≡ call_in tree
+
+-- the line is no JSON
+pub record IsNoJson (line : List ℕ) (asked : Tried Call) : Type 0 where
+  pub none : (tree : Data) → IsJson line tree → ⊥
+  pub refused : asked ≡ Err bad_json
+
+-- What a line asks for: a call, or nothing, for this reason.
+abbrev pub Asks : List ℕ → Tried Call → Type 0
+Asks line asked = AsksIn line asked ⊎ IsNoJson line asked

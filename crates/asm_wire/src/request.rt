@@ -1,68 +1,132 @@
 //! Lines as calls.
-ghost use Rattle.std.specs.Prelude.{◌≡◌, IfOk, option_map};
-ghost use Rattle.serde_json.specs.Find.{as_object};
+ghost use Rattle.std.specs.Prelude.{◌≡◌, Ok, Err, IfOk, IfErr, IfSome};
 ghost use Rattle.serde_json.specs.View.{view};
+ghost use Rattle.asm_wire.specs.Refused.{refusal_in, Tells};
 ghost use Rattle.asm_wire.specs.Requests as spec;
-ghost use Rattle.asm_wire.specs.Requests.{call_of, has_three, string_at, Requests};
+ghost use Rattle.asm_wire.specs.Requests.{Asks};
 
+use crate::fields::{
+    number_in, only, optional_inputs, optional_natural, optional_pick, string_in, without,
+};
+use crate::refusal::WireRefusal;
+use crate::words::{is_among, is_identifier};
 use asm_board::Call;
 use asm_value::Text;
 use serde_json::Value;
-use std::alloc::{AllocError, Global};
+use std::alloc::Global;
 
+/// The most steps of a run.
 const MOST_STEPS: u64 = 64;
 
-#[tactic(auto, using(crate::proofs::Members::count_of_view))]
-fn has_three_fields(value: &Value) -> bool
-    ensures { result ≡ has_three (as_object (view value.now)) }
+/// The operations that aren't built.
+const LATER_OPERATIONS: [&str; 8] = [
+    "unload", "value", "text", "log", "addinv", "dropinv", "rollback", "swap",
+];
+
+fn run_in(alloc: Global, request: &Value) -> Result<Call, WireRefusal>
+    ensures { Tells (spec.run_in (view request.now)) result }
 {
-    match value.as_object() {
-        None => false,
-        Some(members) => members.len() == 3,
+    let text = string_in(alloc, "text", request)?;
+    let steps = number_in(alloc, MOST_STEPS, "steps", request)?;
+    optional_pick(alloc, "pick", request)?;
+    optional_natural(alloc, "since", request)?;
+    only(alloc, &["op", "pick", "since", "steps", "text"], request)?;
+    without("pick", request)?;
+    without("since", request)?;
+    let text = Text::from_str(alloc, text)?;
+    Ok(Call::Run { text, steps })
+}
+
+fn load_in(alloc: Global, request: &Value) -> Result<Call, WireRefusal>
+    ensures { Tells (spec.load_in (view request.now)) result }
+{
+    let name = string_in(alloc, "name", request)?;
+    let text = string_in(alloc, "text", request)?;
+    only(alloc, &["name", "op", "text"], request)?;
+    let name = Text::from_str(alloc, name)?;
+    let text = Text::from_str(alloc, text)?;
+    Ok(Call::Load { name, text })
+}
+
+fn step_in(alloc: Global, request: &Value) -> Result<Call, WireRefusal>
+    ensures { Tells (spec.step_in (view request.now)) result }
+{
+    let formula = string_in(alloc, "formula", request)?;
+    optional_inputs(alloc, "inputs", request)?;
+    optional_pick(alloc, "pick", request)?;
+    only(alloc, &["formula", "inputs", "op", "pick"], request)?;
+    without("inputs", request)?;
+    without("pick", request)?;
+    if !is_identifier(formula) {
+        return Err(WireRefusal::Unbuilt);
+    }
+    let formula = Text::from_str(alloc, formula)?;
+    Ok(Call::Step { formula })
+}
+
+fn state_in(alloc: Global, request: &Value) -> Result<Call, WireRefusal>
+    ensures { Tells (spec.state_in (view request.now)) result }
+{
+    let name = string_in(alloc, "name", request)?;
+    optional_natural(alloc, "since", request)?;
+    only(alloc, &["name", "op", "since"], request)?;
+    without("since", request)?;
+    let name = Text::from_str(alloc, name)?;
+    Ok(Call::State { name })
+}
+
+fn models_in(alloc: Global, request: &Value) -> Result<Call, WireRefusal>
+    ensures { Tells (spec.models_in (view request.now)) result }
+{
+    optional_natural(alloc, "since", request)?;
+    only(alloc, &["op", "since"], request)?;
+    without("since", request)?;
+    Ok(Call::Models)
+}
+
+/// Why no other operation is built.
+fn other_in(alloc: Global, op: &str) -> Result<Call, WireRefusal>
+    ensures { Tells (spec.other_in op.now) result }
+{
+    if is_among(&LATER_OPERATIONS, op) {
+        return Err(WireRefusal::Unbuilt);
+    }
+    Err(WireRefusal::BadRequest(Text::from_str(alloc, "op")?))
+}
+
+fn call_by(alloc: Global, op: &str, request: &Value) -> Result<Call, WireRefusal>
+    ensures { Tells (spec.call_by op.now (view request.now)) result }
+{
+    match op {
+        "run" => run_in(alloc, request),
+        "load" => load_in(alloc, request),
+        "step" => step_in(alloc, request),
+        "state" => state_in(alloc, request),
+        "models" => models_in(alloc, request),
+        _ => other_in(alloc, op),
     }
 }
 
-fn text_at<'a>(value: &'a Value, key: &str) -> Option<&'a str>
-    ensures { option_map (λ text. text.now) result ≡ string_at key.now (view value.now) }
+fn call_in(alloc: Global, request: &Value) -> Result<Call, WireRefusal>
+    ensures { Tells (spec.call_in (view request.now)) result }
 {
-    value.get(key).and_then(Value::as_str)
-}
-
-fn number_at(value: &Value, key: &str) -> Option<u64>
-    ensures { result ≡ spec.number_at key.now (view value.now) }
-{
-    value.get(key).and_then(Value::as_u64)
-}
-
-fn call_in(alloc: Global, value: &Value) -> Result<Option<Call>, AllocError>
-    ensures { IfOk result (λ call. call ≡ call_of (view value.now)) }
-{
-    if !has_three_fields(value) {
-        return Ok(None);
+    if !request.is_object() {
+        return Err(WireRefusal::BadRequest(Text::new(alloc)));
     }
-    match (
-        text_at(value, "op"),
-        number_at(value, "steps"),
-        text_at(value, "text"),
-    ) {
-        (Some(op), Some(steps), Some(text)) if op == "run" && steps <= MOST_STEPS => {
-            Ok(Some(Call::Run {
-                text: Text::from_str(alloc, text)?,
-                steps,
-            }))
-        }
-        _ => Ok(None),
-    }
+    let op = string_in(alloc, "op", request)?;
+    call_by(alloc, op, request)
 }
 
-/// The call that a line asks for. None where it isn't UTF-8 or JSON, or asks for nothing that is
-/// built: another operation, a missing or another field, or more than 64 steps.
-pub fn read_request(alloc: Global, line: &[u8]) -> Result<Option<Call>, AllocError>
-    ensures { IfOk result (Requests line.now) }
+/// The call that a line asks for, or the first reason why it asks for none: it isn't JSON; it is no
+/// object; its operation is missing or unknown; a field, in the order of the operation's fields, is
+/// missing or unfit; it has another field, the least of which is told; or it isn't built.
+pub fn read_request(alloc: Global, line: &[u8]) -> Result<Call, WireRefusal>
+    ensures asked { IfOk result (λ call. Asks line.now (Ok call)) }
+    ensures refused { IfErr result (λ why. IfSome (refusal_in why) (λ refusal. Asks line.now (Err refusal))) }
 {
     match Value::from_slice(alloc, line) {
         Ok(value) => call_in(alloc, &value),
-        Err(error) if error.is_memory() => Err(AllocError),
-        Err(_) => Ok(None),
+        Err(error) if error.is_memory() => Err(WireRefusal::NoMemory),
+        Err(_) => Err(WireRefusal::BadJson),
     }
 }
