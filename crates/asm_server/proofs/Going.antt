@@ -1,12 +1,13 @@
 -- What holds between two lines of a session.
-use Rattle.std.proofs.Common.{◌≡◌, ◌≢◌, ℕ, ◌+◌, ◌<◌, ◌≤◌, List, [], ◌∷◌, ◌++◌, length, Bool, true, false, Option, Result, Ok, Err, refl, sym, ap, subst, ◌∙◌, append_assoc, append-nil, length-append, arith}
+use Rattle.std.proofs.Common.{◌≡◌, ℕ, ◌+◌, ◌<◌, ◌≤◌, List, [], ◌∷◌, ◌++◌, length, Bool, true, false, Option, refl, sym, ap, subst, ◌∙◌, append_assoc, append-nil, length-append, arith}
 use Rattle.std.specs.Io.KnownBytes.{Consumes, IsAtEnd}
 use Rattle.std.proofs.KnownBytes.{Consumes-nil, Consumes-trans}
 use Rattle.asm_io.specs.Causes.{Rose}
 use Rattle.asm_io.specs.Lines.{Line, lines, ended_lines, ended_of, has_feed, is_feed, later_pieces, first_piece}
-use Rattle.asm_io.specs.Readings.{Reading, fresh, lines_on, ended_on, ended_from, ended_behind, GoesOn, Ends, Gives, Takes}
-use Rattle.asm_server.specs.Transcripts.{Answers, IsAnsweredPart, IsGivenPart, AnswersPart}
-use Rattle.asm_server.specs.Headline.{session_bytes, AnsweredAll, AnsweredEnded, AnsweredBudget, AnsweredPart}
+use Rattle.asm_io.specs.Readings.{Reading, fresh, lines_on, ended_on, ended_from, ended_behind, GoesOn, Gives, Takes}
+use Rattle.asm_board.specs.declared.entry.Entry.{Entry}
+use Rattle.asm_server.specs.Transcripts.{Answers, IsGivenPart}
+use Rattle.asm_server.specs.Headline.{session_bytes, AnsweredEnded, AnsweredBudget, AnsweredPart}
 use Rattle.asm_server.proofs.Written.{answers_append, no_answers}
 
 -- which lines were answered of the bytes taken, while the input goes on and once it has ended
@@ -16,23 +17,24 @@ Pending false rest taken done buf =
     × ((more : List ℕ) → ended_lines (taken ++ more) ≡ done ++ ended_on buf more)
 Pending true rest taken done buf = (lines taken ≡ done) × IsAtEnd rest × (0 < buf.budget)
 
-pub record Going (left rest held now : Option (List ℕ)) (buf : Reading) : Type 0 where
+-- the lines so far are answered from an empty journal on, and it is this one now
+pub record Going (left rest held now : Option (List ℕ)) (journal : List Entry) (buf : Reading) : Type 0 where
   pub taken : List ℕ
   pub read : Consumes left rest taken
   pub budget : buf.budget + length taken ≡ session_bytes
   pub done : List Line
-  pub answers : Answers done held now
+  pub answers : Answers [] done journal held now
   pub pending : Pending buf.at_end rest taken done buf
 
-pub begins : (left held : Option (List ℕ)) (buf : Reading) → buf ≡ fresh session_bytes → Going left left held held buf
-begins left held buf is = subst (λ b. Going left left held held b) (sym is) (record {
+pub begins : (left held : Option (List ℕ)) (journal : List Entry) (buf : Reading) → journal ≡ [] → buf ≡ fresh session_bytes → Going left left held held journal buf
+begins left held journal buf none is = subst (λ j. Going left left held held j buf) (sym none) (subst (λ b. Going left left held held [] b) (sym is) (record {
   taken = [];
   read = Consumes-nil left;
   budget = omega arith;
   done = [];
-  answers = no_answers held;
+  answers = no_answers [] held;
   pending = (λ more. refl, λ more. refl);
-})
+}))
 
 -- ---- one more call of `read_line`
 
@@ -55,24 +57,19 @@ module _ (taken more_taken : List ℕ) (done given : List Line) (old new : Readi
   pends rest true before step rest' met = (before.0 more_taken ∙ ap (λ ls. done ++ ls) step.lines, met refl, step.room)
 
 -- the state after a call that gave these lines, whose answers were written
-pub goes : (left rest rest' held now now' : Option (List ℕ)) (old new : Reading) (lines : List Line) (taken : List ℕ)
-    → Going left rest held now old → old.at_end ≡ false → Takes rest rest' old new taken → Gives new.at_end old new taken lines → (new.at_end ≡ true → IsAtEnd rest')
-    → Answers lines now now' → Going left rest' held now' new
-goes left rest rest' held now now' old new lines taken s unended takes gives met answers = record {
+pub goes : (left rest rest' held now now' : Option (List ℕ)) (journal next : List Entry) (old new : Reading) (lines : List Line) (taken : List ℕ)
+    → Going left rest held now journal old → old.at_end ≡ false → Takes rest rest' old new taken → Gives new.at_end old new taken lines → (new.at_end ≡ true → IsAtEnd rest')
+    → Answers journal lines next now now' → Going left rest' held now' next new
+goes left rest rest' held now now' journal next old new lines taken s unended takes gives met answers = record {
   taken = s.taken ++ taken;
   read = Consumes-trans left rest rest' s.taken taken s.read takes.consumes;
   budget = omega (arith, length-append s.taken taken, s.budget, takes.budget);
   done = s.done ++ lines;
-  answers = answers_append s.done lines held now now' s.answers answers;
+  answers = answers_append [] journal next s.done lines held now now' s.answers answers;
   pending = pends s.taken taken s.done lines old new rest new.at_end (subst (λ b. Pending b rest s.taken s.done old) unended s.pending) gives rest' met;
 }
 
 -- ---- the ends
-
-pub all : (left rest held now : Option (List ℕ)) (buf : Reading) → Going left rest held now buf → buf.at_end ≡ true → AnsweredAll left rest held now
-all left rest held now buf s ended =
-    let p = subst (λ b. Pending b rest s.taken s.done buf) ended s.pending in
-    record { input = s.taken; read = s.read; at_end = p.1; within = omega (arith, s.budget, p.2); answers = subst (λ ls. Answers ls held now) (sym p.0) s.answers }
 
 -- where no line feed comes, no line ends
 no_pieces : (bytes : List ℕ) → has_feed bytes ≡ false → later_pieces bytes ≡ []
@@ -89,17 +86,17 @@ none_from true bytes e = ap ended_behind e
 none_ended : (buf : Reading) → has_feed buf.kept ≡ false → ended_on buf [] ≡ []
 none_ended buf none = ap (ended_from buf.over) (append-nil buf.kept) ∙ none_from buf.over buf.kept (no_pieces buf.kept none)
 
-pub ended : (left rest held now : Option (List ℕ)) (buf : Reading) → Going left rest held now buf → buf.at_end ≡ false → has_feed buf.kept ≡ false → AnsweredEnded left rest held now
-ended left rest held now buf s unended none =
+pub ended : (left rest held now : Option (List ℕ)) (journal : List Entry) (buf : Reading) → Going left rest held now journal buf → buf.at_end ≡ false → has_feed buf.kept ≡ false → AnsweredEnded left rest held now
+ended left rest held now journal buf s unended none =
     let p = subst (λ b. Pending b rest s.taken s.done buf) unended s.pending in
     let are : ended_lines s.taken ≡ s.done = ap ended_lines (sym (append-nil s.taken)) ∙ p.1 [] ∙ ap (λ ls. s.done ++ ls) (none_ended buf none) ∙ append-nil s.done in
-    record { taken = s.taken; read = s.read; answers = subst (λ ls. Answers ls held now) (sym are) s.answers }
+    record { taken = s.taken; read = s.read; journal = journal; answers = subst (λ ls. Answers [] ls journal held now) (sym are) s.answers }
 
-pub spent : (left rest held now : Option (List ℕ)) (buf : Reading) → Going left rest held now buf → buf.at_end ≡ false → has_feed buf.kept ≡ false → buf.budget ≡ 0 → AnsweredBudget left rest held now
-spent left rest held now buf s unended none zero =
+pub spent : (left rest held now : Option (List ℕ)) (journal : List Entry) (buf : Reading) → Going left rest held now journal buf → buf.at_end ≡ false → has_feed buf.kept ≡ false → buf.budget ≡ 0 → AnsweredBudget left rest held now
+spent left rest held now journal buf s unended none zero =
     let p = subst (λ b. Pending b rest s.taken s.done buf) unended s.pending in
     let are : ended_lines s.taken ≡ s.done = ap ended_lines (sym (append-nil s.taken)) ∙ p.1 [] ∙ ap (λ ls. s.done ++ ls) (none_ended buf none) ∙ append-nil s.done in
-    record { taken = s.taken; read = s.read; spent = omega (arith, s.budget, zero); answers = subst (λ ls. Answers ls held now) (sym are) s.answers }
+    record { taken = s.taken; read = s.read; spent = omega (arith, s.budget, zero); journal = journal; answers = subst (λ ls. Answers [] ls journal held now) (sym are) s.answers }
 
 -- the lines of the bytes taken: those answered, the one that was given, and those behind it
 split : (at_end : Bool) (rest : Option (List ℕ)) (taken : List ℕ) (done : List Line) (line : Line) (more : List Line) (buf : Reading)
@@ -111,11 +108,11 @@ split false rest taken done line more buf p = (
 split true rest taken done line more buf p = (more, p.0)
 
 -- the answer to the line that was given was written in part
-pub part : (left rest rest' held now now' : Option (List ℕ)) (old new : Reading) (given : List Line) (taken : List ℕ)
-    → Going left rest held now old → old.at_end ≡ false → Takes rest rest' old new taken → Gives new.at_end old new taken given → (new.at_end ≡ true → IsAtEnd rest')
-    → IsGivenPart given now now' → AnsweredPart left rest' held now'
-part left rest rest' held now now' old new [] taken s unended takes gives met p = absurd p
-part left rest rest' held now now' old new (line ∷ more) taken s unended takes gives met p =
+pub part : (left rest rest' held now now' : Option (List ℕ)) (journal : List Entry) (old new : Reading) (given : List Line) (taken : List ℕ)
+    → Going left rest held now journal old → old.at_end ≡ false → Takes rest rest' old new taken → Gives new.at_end old new taken given → (new.at_end ≡ true → IsAtEnd rest')
+    → IsGivenPart journal given now now' → AnsweredPart left rest' held now'
+part left rest rest' held now now' journal old new [] taken s unended takes gives met p = absurd p
+part left rest rest' held now now' journal old new (line ∷ more) taken s unended takes gives met p =
     let pending = pends s.taken taken s.done (line ∷ more) old new rest new.at_end (subst (λ b. Pending b rest s.taken s.done old) unended s.pending) gives rest' met in
     let two = split new.at_end rest' (s.taken ++ taken) s.done line more new pending in
     record {
@@ -125,7 +122,7 @@ part left rest rest' held now now' old new (line ∷ more) taken s unended takes
       line = line;
       behind = two.0;
       split = two.1;
-      answers = record { between = now; before = s.answers; last = p };
+      answers = record { last = journal; between = now; before = s.answers; part = p };
     }
 
 -- ---- what a call's clauses tell
@@ -135,21 +132,10 @@ off true h = absurd (h refl)
 off false h = refl
 
 -- no line was given, and the input goes on
-pub faulted : (left rest rest' held now : Option (List ℕ)) (old new : Reading) (taken : List ℕ)
-    → Going left rest held now old → old.at_end ≡ false → Takes rest rest' old new taken → GoesOn old new taken [] → new.at_end ≡ false → Going left rest' held now new
-faulted left rest rest' held now old new taken s unended takes step after =
-    goes left rest rest' held now now old new [] taken s unended takes (subst (λ b. Gives b old new taken []) (sym after) step) (λ t. absurd (cc (t, after))) (no_answers now)
-
--- no line was left
-pub finished : (left rest rest' held now : Option (List ℕ)) (old new : Reading) (taken : List ℕ) (b : Bool) → old.at_end ≡ b
-    → Going left rest held now old → Takes rest rest' old new taken → Gives new.at_end old new taken [] → new.at_end ≡ true
-    → (new.at_end ≡ true → (old.at_end ≡ true → IsAtEnd rest) → IsAtEnd rest') → (old.at_end ≡ true → rest' ≡ rest) → AnsweredAll left rest' held now
-finished left rest rest' held now old new taken true is s takes gives after met same =
-    subst (λ r. AnsweredAll left r held now) (sym (same is)) (all left rest held now old s is)
-finished left rest rest' held now old new taken false is s takes gives after met same =
-    all left rest' held now new
-    (goes left rest rest' held now now old new [] taken s is takes gives (λ t. met t (λ u. absurd (cc (u, is)))) (no_answers now))
-    after
+pub faulted : (left rest rest' held now : Option (List ℕ)) (journal : List Entry) (old new : Reading) (taken : List ℕ)
+    → Going left rest held now journal old → old.at_end ≡ false → Takes rest rest' old new taken → GoesOn old new taken [] → new.at_end ≡ false → Going left rest' held now journal new
+faulted left rest rest' held now journal old new taken s unended takes step after =
+    goes left rest rest' held now now journal journal old new [] taken s unended takes (subst (λ b. Gives b old new taken []) (sym after) step) (λ t. absurd (cc (t, after))) (no_answers journal now)
 
 pub rose_before : (a b n : ℕ) → a ≤ b → Rose b n → Rose a n
 rose_before a b n h r = omega arith

@@ -1,3 +1,4 @@
 pub mod Written
+pub mod Parts
 pub mod Going
 pub mod Words

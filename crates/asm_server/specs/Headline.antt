@@ -3,6 +3,7 @@ use Rattle.std.specs.Prelude.{◌≡◌, ℕ, ◌^◌, ◌<◌, List, [], ◌∷
 use Rattle.std.specs.declared.alloc.Global.{Global}
 use Rattle.std.specs.Io.KnownBytes.{Consumes, IsAtEnd}
 use Rattle.asm_io.specs.Lines.{Line, lines, ended_lines}
+use Rattle.asm_board.specs.declared.entry.Entry.{Entry}
 use Rattle.asm_server.specs.Transcripts.{Answers, AnswersPart}
 
 -- the words of the command line are these
@@ -13,26 +14,29 @@ AreStdio words = map (λ word. string_bytes word) words ≡ codes "stdio" ∷ []
 abbrev pub session_bytes : ℕ
 session_bytes = 2 ^ 40
 
--- The source was read to its end, and each line of its bytes is answered, in their order.
+-- The source was read to its end, and each line of its bytes is answered, in their order, after the changes accepted before it.
 pub record AnsweredAll (left rest held now : Option (List ℕ)) : Type 0 where
   pub input : List ℕ
   pub read : Consumes left rest input
   pub at_end : IsAtEnd rest
   pub within : length input < session_bytes
-  pub answers : Answers (lines input) held now
+  pub journal : List Entry
+  pub answers : Answers [] (lines input) journal held now
 
 -- Bytes were taken from the source, and each line that ended in them is answered.
 pub record AnsweredEnded (left rest held now : Option (List ℕ)) : Type 0 where
   pub taken : List ℕ
   pub read : Consumes left rest taken
-  pub answers : Answers (ended_lines taken) held now
+  pub journal : List Entry
+  pub answers : Answers [] (ended_lines taken) journal held now
 
 -- The same, where all bytes of a session were taken.
 pub record AnsweredBudget (left rest held now : Option (List ℕ)) : Type 0 where
   pub taken : List ℕ
   pub read : Consumes left rest taken
   pub spent : length taken ≡ session_bytes
-  pub answers : Answers (ended_lines taken) held now
+  pub journal : List Entry
+  pub answers : Answers [] (ended_lines taken) journal held now
 
 -- The first lines of the bytes taken are answered, and of the answer to the next one a first part is written, perhaps the whole.
 pub record AnsweredPart (left rest held now : Option (List ℕ)) : Type 0 where
@@ -42,7 +46,7 @@ pub record AnsweredPart (left rest held now : Option (List ℕ)) : Type 0 where
   pub line : Line
   pub behind : List Line
   pub split : lines taken ≡ before ++ line ∷ behind
-  pub answers : AnswersPart before line held now
+  pub answers : AnswersPart [] before line held now
 
 -- the statuses with which the program may end
 abbrev pub IsStatus : ℕ → Type 0

@@ -1,3 +1,4 @@
 pub mod Transcripts
 pub mod Headline
+pub mod Replies
 pub mod Sessions

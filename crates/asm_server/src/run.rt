@@ -5,11 +5,15 @@ ghost use Rattle.asm_io.specs.Causes.{Rose};
 ghost use Rattle.asm_server.specs.Headline.{AreStdio, AnsweredAll, AnsweredEnded, AnsweredBudget, AnsweredPart, IsStatus};
 
 use crate::serve::serve;
+use asm_core::One;
 use asm_io::{LineBuf, SessionEnd, Sink, Source};
 use std::alloc::Global;
 
 /// How many bytes one session may take.
 const SESSION_BYTES: u64 = 1 << 40;
+
+/// What the entries of the journal may weigh.
+const JOURNAL_ROOM: u64 = 1 << 23;
 
 fn are_stdio(words: &[String]) -> bool
     ensures { (result ≡ true) ↔ AreStdio words.now }
@@ -22,10 +26,11 @@ fn are_stdio(words: &[String]) -> bool
 
 /// Runs the program on the words of its command line, without its name, and gives its exit status.
 ///
-/// On the one word `stdio` it answers each line of the source by one line on the sink, in order:
-/// 0 where the source was read to its end; 2 where a read failed, and 3 where a write or a flush
-/// did; 6 where 2^40 bytes were taken and the source hasn't ended. 4 says that memory was wanting
-/// for a line's buffer; then, and at 1, which any other words give, nothing is read or written.
+/// On the one word `stdio` it answers each line of the source by one line on the sink, in order,
+/// after the changes that were accepted before it: 0 where the source was read to its end; 2 where
+/// a read failed, and 3 where a write or a flush did; 6 where 2^40 bytes were taken and the source
+/// hasn't ended. 4 says that memory was wanting for a line's buffer or the journal; then, and at 1,
+/// which any other words give, nothing is read or written.
 pub fn run_plain<S: Source, K: Sink>(
     alloc: Global,
     words: &[String],
@@ -56,7 +61,10 @@ pub fn run_plain<S: Source, K: Sink>(
     let Ok(mut buf) = LineBuf::new(alloc, SESSION_BYTES) else {
         return 4;
     };
-    match serve(alloc, &mut buf, source, sink) {
+    let Ok(mut one) = One::new(alloc, JOURNAL_ROOM) else {
+        return 4;
+    };
+    match serve(alloc, &mut one, &mut buf, source, sink) {
         SessionEnd::Ended => 0,
         SessionEnd::ReadFault => 2,
         SessionEnd::WriteFault => 3,

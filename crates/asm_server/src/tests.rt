@@ -1,11 +1,12 @@
-//! The words of the command line, and faults of the source and the sink at their first, middle and
-//! last calls.
+//! The words of the command line, faults of the source and the sink at their first, middle and last
+//! calls, and a line that is too long.
 use crate::run::run_plain;
 use asm_io::{MemorySink, MemorySource};
 use std::alloc::{AllocError, Global};
 use std::test::Fail;
 
-/// A line of 130,000 spaces, which two reads give, and a list: neither is a request. A third read finds the end.
+/// A line of 130,000 spaces, which two reads give, and a list: the one is no JSON, the other no
+/// request. A third read finds the end.
 fn requests(alloc: Global) -> Result<Vec<u8>, AllocError> {
     let mut bytes = vec![in alloc; b' '; 130_000]?;
     bytes.extend_from_slice(b"\n[]\n")?;
@@ -30,15 +31,17 @@ fn status_of(
 #[test]
 fn faults_end_the_run_where_they_come(rt: HostRuntime) -> Result<(), Fail> {
     let alloc = rt.alloc();
-    let reply = b"{\"at\":0,\"no\":\"Unbuilt\",\"why\":{}}\n";
+    let first = b"{\"at\":0,\"no\":\"BadJson\",\"why\":{}}\n".len();
+    let both = first + b"{\"at\":0,\"no\":\"BadRequest\",\"why\":{\"field\":\"\"}}\n".len();
     let rows = [
-        ([9u64, 9].as_slice(), [99u64].as_slice(), 0, 2 * reply.len()),
+        ([9u64, 9].as_slice(), [99u64].as_slice(), 0, both),
         (&[0], &[99], 2, 0),
         (&[1], &[99], 2, 0),
-        (&[2], &[99], 2, 2 * reply.len()),
+        (&[2], &[99], 2, both),
         (&[9], &[0], 3, 0),
-        (&[9], &[5], 3, reply.len()),
-        (&[9], &[11], 3, 2 * reply.len()),
+        (&[9], &[5], 3, first),
+        (&[9], &[8], 3, first + 7),
+        (&[9], &[11], 3, both),
     ];
     for (reads, writes, status, bytes) in rows {
         let mut held = Vec::new(alloc);
@@ -68,5 +71,28 @@ fn other_words_read_and_write_nothing(rt: HostRuntime) -> Result<(), Fail> {
         );
         assert_eq!(rt; sink.held().len(), 0);
     }
+    Ok(())
+}
+
+/// What the program writes for these bytes.
+fn written(alloc: Global, bytes: &[u8]) -> Result<Vec<u8>, AllocError> {
+    let words = vec![in alloc; String::from_str(alloc, "stdio")?]?;
+    let mut source = MemorySource::new(alloc, bytes, &[])?;
+    let mut sink = MemorySink::new(alloc, 1000, &[])?;
+    run_plain(alloc, words.as_slice(), &mut source, &mut sink);
+    Vec::from_slice(alloc, sink.held())
+}
+
+#[test]
+fn a_line_that_is_too_long_is_refused_and_the_next_is_answered(
+    rt: HostRuntime,
+) -> Result<(), Fail> {
+    let alloc = rt.alloc();
+    let mut bytes = vec![in alloc; b' '; 1_048_577]?;
+    bytes.extend_from_slice(b"\n{\"op\":\"models\"}")?;
+    let held = written(alloc, bytes.as_slice())?;
+    let want =
+        "{\"at\":0,\"no\":\"LineTooLong\",\"why\":{\"limit\":1048576}}\n{\"at\":0,\"ok\":[]}\n";
+    assert!(rt; held.as_slice() == want.as_bytes());
     Ok(())
 }
