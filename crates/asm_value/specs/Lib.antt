@@ -2,9 +2,17 @@
 pub mod ClashLaws
 pub mod Domain
 pub mod DomainLaws
+pub mod Enumerable
+pub mod EnumerableLaws
 pub mod FiringLaws
+pub mod Listing
+pub mod Living
+pub mod LivingLaws
 pub mod Location
 pub mod LocationLaws
+pub mod MemberLists
+pub mod Members
+pub mod MembersLaws
 pub mod Proper
 pub mod Ranges
 pub mod State

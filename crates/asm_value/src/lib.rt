@@ -6,6 +6,7 @@ mod args;
 mod domain;
 mod laws;
 mod location;
+mod membership;
 mod range;
 #[cfg(test)]
 mod tests;
@@ -20,5 +21,6 @@ pub use laws::{
     there_is_at_most_one_clash,
 };
 pub use location::{Location, Place, Update};
+pub use membership::members;
 pub use range::{sets_of, tuples};
 pub use value::{Value, compare_all, copy_all};
