@@ -1,4 +1,5 @@
 pub mod Meaning
 pub mod Yields
 pub mod Typed
+pub mod TypedLaws
 pub mod Forms

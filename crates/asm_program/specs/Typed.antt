@@ -1,8 +1,10 @@
--- Which trees are programs, and which program a tree is: names differ and are declared, and domains agree.
-use Rattle.std.specs.Prelude.{ℕ, ◌+◌, Bool, true, false, not, ◌&&◌, nat_le, if◌then◌else◌, ℤ, pos, List, [], ◌∷◌, length, map, Option, Some, None}
+-- Which trees are programs, and which program a tree is: at most 256 functions are declared, names differ and are declared, and domains agree.
+use Rattle.std.specs.Prelude.{◌≡◌, ℕ, ◌+◌, Bool, true, false, not, ◌&&◌, nat_le, if◌then◌else◌, ℤ, pos, List, [], ◌∷◌, length, map, Option, Some, None, option_and_then}
 use Rattle.std.specs.Option.{option_map}
 use Rattle.std.specs.List.{list_any}
 use Rattle.std.specs.Str.{bytes_eq}
+use Rattle.std.proofs.Common.{refl}
+use Rattle.std.proofs.lemmas.Bool.{leb-true}
 use Rattle.asm_value.specs.declared.value.Value.TheVariants as values
 use Rattle.asm_value.specs.declared.domain.Domain.{Domain}
 use Rattle.asm_value.specs.declared.domain.Domain.TheVariants as domains
@@ -139,11 +141,17 @@ domain_of Integer = domains.Int
 abbrev pub function_of : DeclTree → FunctionInfo
 function_of d = record { name = declared_name d; result = domain_of (declared_domain d) }
 
-abbrev pub program_with : ModelTree → Rule → Program
-program_with tree main = record { name = name_of tree.name; functions = map function_of tree.decls; main = main }
+-- the program of these parts, where its functions are few: at most 256
+abbrev pub program_if : List ℕ → (functions : List FunctionInfo) → Rule → (few : Bool) → nat_le (length functions) 256 ≡ few → Option Program
+program_if name functions main true e = Some (record { name = name; functions = functions; main = main; few = leb-true _ _ e })
+program_if name functions main false e = None
+
+abbrev pub program_from : List ℕ → List FunctionInfo → Rule → Option Program
+program_from name functions main = program_if name functions main (nat_le (length functions) 256) refl
+
+abbrev pub program_with : ModelTree → Rule → Option Program
+program_with tree main = program_from (name_of tree.name) (map function_of tree.decls) main
 
 -- The program of a model, if it is one.
 abbrev pub program_of : ModelTree → Option Program
-program_of tree =
-    if nat_le (length tree.decls) 256 && differ (names_of tree)
-    then option_map (program_with tree) (rule_of tree.decls tree.main) else None
+program_of tree = if differ (names_of tree) then option_and_then (program_with tree) (rule_of tree.decls tree.main) else None

@@ -1,4 +1,6 @@
 //! Programs: what is left of a tree once its names are numbers.
+ghost use Rattle.std.specs.Prelude.{◌≤◌, length};
+
 use crate::trees::Rule;
 use asm_value::{Domain, List, Text};
 
@@ -11,8 +13,8 @@ pub struct FunctionInfo {
     pub result: Domain,
 }
 
-/// A typed model: names differ and are declared, and domains agree. No field keeps this: whoever
-/// makes a program from a tree proves it.
+/// A typed model of at most 256 functions: names differ and are declared, and domains agree. No
+/// field keeps what is said of names and domains: whoever makes a program from a tree proves it.
 #[derive(Debug, Drop)]
 pub struct Program {
     /// The model's name.
@@ -21,4 +23,5 @@ pub struct Program {
     pub functions: List<FunctionInfo>,
     /// The rule of a step.
     pub main: Rule,
+    pub ghost few: { length functions ≤ 256 },
 }
