@@ -1,1 +1,2 @@
--- No definitions of this crate's own: sets of updates are defined below, in the specs of values.
+-- Laws of the sets of updates that are defined below, in the specs of values.
+pub mod ListLaws
