@@ -155,17 +155,20 @@ impl Board {
     }
 
     /// The board with one more entry of this weight, which changed these models. What stayed is
-    /// shared with this board.
+    /// shared with this board. `AllocError` is want of memory; it is answered too where the board has
+    /// 2^64 - 1 entries, a journal for which no memory is enough.
     pub fn with_entry(
         &self,
         alloc: Global,
         weight: u64,
         slots: &[Changed],
     ) -> Result<Board, AllocError>
-        requires { self.now.front < 2 ^ 64 - 1 }
         ensures { IfOk result (λ board. board ≡ spec.with_entry self.now weight slots.now) }
     {
-        let front = self.front + 1;
+        let front = match self.front.checked_add(1) {
+            Some(front) => front,
+            None => return Err(AllocError),
+        };
         let mut models = copies(alloc, self.slots.as_slice())?;
         for change in slots {
             let name = change.name.copy(alloc)?;

@@ -1,12 +1,12 @@
 //! Contents: what a model is at one version.
-ghost use Rattle.std.specs.Prelude.{◌≡◌, ◌≤◌, length};
+ghost use Rattle.std.specs.Prelude.{◌≡◌};
 
 use crate::shared::Shared;
 use asm_program::Program;
 use asm_state::State;
 use std::marker::Model;
 
-/// A program and a state of it. Contracts see it as these two. It declares at most 256 functions.
+/// A program and a state of it. Contracts see it as these two.
 #[derive(Drop)]
 pub struct Content {
     program: Shared<Program>,
@@ -14,7 +14,6 @@ pub struct Content {
 }
 
 impl Model for Content {
-    ghost use Rattle.std.specs.Prelude.{◌≤◌, length};
     ghost use Rattle.std.specs.Coded.{codes};
     ghost use Rattle.asm_value.specs.contracts.domain.Domain as domain;
     ghost use Rattle.asm_value.specs.contracts.value.Value as value;
@@ -29,14 +28,11 @@ impl Model for Content {
     ghost coded = { Prim.hlevel (codes, domain.the_row.coded, value.the_row.coded, rule.the_row.coded, map.code {R = location_cmp} location.the_row.coded value.the_row.coded) };
 
     ghost view = { λ c. record { program = c.program; state = c.state } };
-
-    ghost invariant = { λ c. length c.program.functions ≤ 256 };
 }
 
 impl Content {
     /// A program in a state.
     pub fn new(program: Shared<Program>, state: State) -> Content
-        requires { length program.functions ≤ 256 }
         ensures { result ≡ record { program = program; state = state } }
     {
         Content { program, state }
@@ -44,8 +40,7 @@ impl Content {
 
     /// The program, which other contents may have too.
     pub fn program(&self) -> &Shared<Program>
-        ensures program { result.now ≡ self.now.program }
-        ensures few { length result.now.functions ≤ 256 }
+        ensures { result.now ≡ self.now.program }
     {
         &self.program
     }

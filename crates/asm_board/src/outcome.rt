@@ -1,5 +1,5 @@
 //! What a prepared change comes to at a board.
-ghost use Rattle.std.specs.Prelude.{ℕ, ◌≡◌, ◌+◌, ◌<◌, ◌-◌, ◌^◌, nat_lt, Some, None, IfOk, IfSome};
+ghost use Rattle.std.specs.Prelude.{ℕ, ◌≡◌, ◌+◌, nat_lt, Some, None, IfOk, IfSome};
 ghost use Rattle.asm_board.specs.Boards as spec;
 ghost use Rattle.asm_board.specs.Answers as answers;
 ghost use Rattle.asm_board.specs.Answers.{answer_in, outcome_of};
@@ -106,7 +106,6 @@ impl Prepared {
 
     /// How it ends at a board where its versions still hold.
     fn end(&self, alloc: Global, room: u64, board: &Board) -> Result<End, AllocError>
-        requires { board.now.front < 2 ^ 64 - 1 }
         ensures answer { IfOk result (λ end. (seat : ℕ) → answer_of self.now board.now.front seat end ≡ outcome_of room board.now seat self.now) }
         ensures board { IfOk result (λ end. LeavesBoard (spec.with_entry board.now self.now.weight self.now.slots) end) }
     {
@@ -129,8 +128,8 @@ impl Prepared {
 
     /// What it comes to at a board where its versions still hold: a refusal where there is no place for
     /// one more model, or no room for the entry in a journal of this weight at most, or else what it
-    /// says, as an entry of this seat where it is accepted. On `AllocError`, want of memory, it is
-    /// dropped.
+    /// says, as an entry of this seat where it is accepted. On `AllocError`, want of memory or a board
+    /// of 2^64 - 1 entries, it is dropped.
     pub fn outcome(
         self,
         alloc: Global,
@@ -138,7 +137,6 @@ impl Prepared {
         board: &Board,
         seat: u32,
     ) -> Result<Outcome, AllocError>
-        requires { board.now.front < 2 ^ 64 - 1 }
         ensures answer { IfOk result (λ outcome. answer_in outcome ≡ outcome_of room board.now seat self) }
         ensures board { IfOk result (λ outcome. IfSome outcome.next
             (λ next. next.board ≡ spec.with_entry board.now self.weight self.slots)) }

@@ -1,6 +1,4 @@
 //! The texts of replies, weights, boards and outcomes, worked out by hand.
-ghost use Rattle.std.specs.Prelude.{◌≡◌, ◌+◌, ◌<◌, IfOk};
-
 use crate::{Board, Body, Call, Changed, Content, Outcome, Prepared, Refusal, Reply, Shared, Slot};
 use asm_portable::{Port, push_field};
 use asm_program::{Program, Rule};
@@ -152,10 +150,7 @@ fn changed(
     weight: u64,
     longest: u32,
     count: u32,
-) -> Result<Board, AllocError>
-    requires { board.now.front < 9 }
-    ensures { IfOk result (λ after. after.front ≡ board.now.front + 1) }
-{
+) -> Result<Board, AllocError> {
     let slots = changes(alloc, longest, count)?;
     board.with_entry(alloc, weight, slots.as_slice())
 }
