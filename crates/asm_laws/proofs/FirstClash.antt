@@ -18,8 +18,7 @@ use Rattle.asm_value.specs.UpdateSet.{UpdateSet, items, empty, add_all, has-item
 use Rattle.asm_value.specs.State.{IsConsistent, IsClash}
 use Rattle.asm_value.specs.ClashLaws.{IsClash-alone}
 use Rattle.asm_value.specs.StateLaws.{location_is}
-use Rattle.asm_updates.proofs.Sets.{has-view}
-use Rattle.asm_updates.proofs.Clashes.{clash_from, IsConsistent-from_none, IsClash-from_some, clash-IsConsistent}
+use Rattle.asm_updates.specs.ListLaws.{has-listed, clash_from, IsConsistent-from_none, IsClash-from_some, clash-IsConsistent}
 use Rattle.asm_board.specs.Contents.{first_clash}
 
 -- ---- the list of a set ascends
@@ -57,7 +56,7 @@ items_ascend s = ascends (finite.entries s) (finite.entries_sorted s)
 
 -- the set of its own list
 of_items : (s : UpdateSet) → add_all empty (items s) ≡ s
-of_items s = same_updates _ _ (λ u. has-view (items s) u ∙ sym (has-items s u))
+of_items s = same_updates _ _ (λ u. has-listed (items s) u ∙ sym (has-items s u))
 
 -- ---- the first clash of a list
 
