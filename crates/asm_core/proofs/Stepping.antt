@@ -1,12 +1,22 @@
 -- Steps, one after another.
-use Rattle.std.proofs.Common.{◌≡◌, ℕ, suc, ◌+◌, ◌-◌, ◌<◌, Ok, Err, ap, ◌∙◌, arith}
-use Rattle.asm_value.specs.State.{StateMap}
+use Rattle.std.proofs.Common.{◌≡◌, ℕ, suc, ◌+◌, ◌-◌, ◌<◌, None, Ok, Err, sym, ap, ◌∙◌, arith}
+use Rattle.asm_value.specs.State.{StateMap, fire}
+use Rattle.asm_value.specs.UpdateSet.{UpdateSet, items}
 use Rattle.asm_program.specs.declared.program.Program.{Program}
 use Rattle.asm_board.specs.declared.refusal.Refusal.{Refusal}
 use Rattle.asm_board.specs.Meanings.{Meanings}
-use Rattle.asm_board.specs.Refusals.{Tried, after, of_run}
-use Rattle.asm_board.specs.Changes.{stepped}
+use Rattle.asm_board.specs.Refusals.{Tried, after, Whose, of_run}
+use Rattle.asm_board.specs.Contents.{first_clash, stepped_by, fired}
+use Rattle.asm_board.specs.Changes.{state_after, stepped}
 use Rattle.asm_board.specs.Reads.{steps_from}
+
+-- a set without a clash is fired
+pub fires : (m : Meanings) (whose : Whose) (program : Program) (state next : StateMap) (updates : UpdateSet) → updates ≡ m.yields program state
+    → first_clash (items updates) ≡ None → next ≡ fire state updates → stepped m whose program state ≡ Ok next
+fires m whose program state next updates yielded none is =
+    ap (λ set. state_after whose program (fired state set)) (sym yielded)
+    ∙ ap (λ clash. state_after whose program (stepped_by state updates clash)) none
+    ∙ ap (λ s. Ok s) (sym is)
 
 module _ (m : Meanings) (program : Program) (count made : ℕ) (state : StateMap) (h : made < count) where
   -- the next step, and those behind it

@@ -1,6 +1,5 @@
 //! Changes: what they make of the models, were there room for them.
-ghost use Rattle.std.specs.Prelude.{◌≡◌, ◌||◌};
-ghost use Rattle.std.specs.List.{list_all};
+ghost use Rattle.std.specs.Prelude.{◌≡◌};
 ghost use Rattle.asm_board.specs.Changes as spec;
 ghost use Rattle.asm_core.specs.Comes.{Comes, accepted_of};
 ghost use Rattle.asm_core.specs.Language.{asmeta};
@@ -10,7 +9,7 @@ use crate::shown::out_shown;
 use crate::steps::stepped;
 use crate::stop::Stop;
 use crate::texts::program_in;
-use asm_board::{Board, Content, Refusal, Shared};
+use asm_board::{Board, Content, Refusal, Shared, is_identifier};
 use asm_portable::Port;
 use asm_state::State;
 use asm_value::Text;
@@ -27,34 +26,11 @@ pub struct Accepted {
     pub content: Content,
 }
 
-fn is_letter(byte: u8) -> bool
-    ensures { result ≡ spec.is_letter byte }
-{
-    byte.is_ascii_alphabetic() || byte == b'_'
-}
-
-fn are_word_bytes(bytes: &[u8]) -> bool
-    ensures { result ≡ list_all (λ d. spec.is_letter d || spec.is_digit d) bytes.now }
-{
-    for byte in bytes {
-        if !is_letter(*byte) && !byte.is_ascii_digit() {
-            return false;
-        }
-    }
-    true
-}
-
-/// Whether a model may have the name: a letter or `_`, and then letters, digits and `_`; at most 64
-/// bytes.
+/// Whether a model may have the name: an identifier of at most 64 bytes.
 pub fn is_right_name(name: &str) -> bool
     ensures { result ≡ spec.is_right_name name.now }
 {
-    match name.as_bytes() {
-        [first, rest @ ..] => {
-            is_letter(*first) && are_word_bytes(rest) && name.len() <= MOST_NAME_BYTES
-        }
-        [] => false,
-    }
+    is_identifier(name) && name.len() <= MOST_NAME_BYTES
 }
 
 /// A new model of a text, in its initial state.

@@ -83,7 +83,6 @@ fn put_shown(
 
 /// The defined functions with their values, ascending by name.
 fn defined(alloc: Global, program: &Program, state: &State) -> Result<Vec<Field>, AllocError>
-    requires { length program.now.functions ≤ 256 }
     ensures { IfOk result (λ fields. fields.items ≡ ports.ascending (spec.defined state.now 0 program.now.functions)) }
 {
     let functions = program.functions.as_slice();
@@ -97,7 +96,6 @@ fn defined(alloc: Global, program: &Program, state: &State) -> Result<Vec<Field>
 
 /// The defined functions, as a tree.
 fn functions_shown(alloc: Global, program: &Program, state: &State) -> Result<Port, AllocError>
-    requires { length program.now.functions ≤ 256 }
     ensures { IfOk result (λ port. port ≡ spec.functions_shown program.now state.now) }
 {
     Ok(Port::Fields(List::from_vec(defined(alloc, program, state)?)))
@@ -110,7 +108,6 @@ pub fn run_shown(
     steps: u64,
     state: &State,
 ) -> Result<Port, AllocError>
-    requires { length program.now.functions ≤ 256 }
     ensures { IfOk result (λ port. port ≡ spec.run_shown program.now steps state.now) }
 {
     let functions = functions_shown(alloc, program, state)?;

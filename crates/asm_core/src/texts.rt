@@ -1,5 +1,5 @@
 //! The program of a text.
-ghost use Rattle.std.specs.Prelude.{◌≡◌, ◌≤◌, length, IfOk, MatchOption};
+ghost use Rattle.std.specs.Prelude.{◌≡◌, IfOk, MatchOption};
 ghost use Rattle.asm_program.specs.declared.program.Program.{Program as Programs};
 ghost use Rattle.asm_texts.specs.Texts.{IsProgram};
 ghost use Rattle.asm_board.specs.Changes as spec;
@@ -19,8 +19,7 @@ const MOST_BYTES: usize = 16_384;
 
 /// The program of a text, if it has one.
 fn program_of(alloc: Global, text: &str) -> Result<Option<Program>, AllocError>
-    ensures program { IfOk result (λ found. MatchOption found ((program : Programs) → IsProgram text.now program → ⊥) (IsProgram text.now)) }
-    ensures few { IfOk result (λ found. MatchOption found (Unit {0}) (λ program. length program.functions ≤ 256)) }
+    ensures { IfOk result (λ found. MatchOption found ((program : Programs) → IsProgram text.now program → ⊥) (IsProgram text.now)) }
 {
     if text.len() > MOST_BYTES {
         return Ok(None);
@@ -41,8 +40,7 @@ fn program_of(alloc: Global, text: &str) -> Result<Option<Program>, AllocError>
 
 /// The program of a text, or the refusal of the text.
 pub fn program_in(alloc: Global, text: &str) -> Result<Program, Stop>
-    ensures tried { Comes (λ program. program) (spec.program_in asmeta text.now) result }
-    ensures few { IfOk result (λ program. length program.functions ≤ 256) }
+    ensures { Comes (λ program. program) (spec.program_in asmeta text.now) result }
 {
     a_text_has_its_program();
     a_text_without_program();
