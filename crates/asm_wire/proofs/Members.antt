@@ -4,7 +4,8 @@ use Rattle.std.specs.List.{list_any, list_all}
 use Rattle.serde_json.specs.declared.value.Value.{Value}
 use Rattle.serde_json.specs.Find.{as_object}
 use Rattle.serde_json.specs.View.{view, members_view}
-use Rattle.asm_wire.specs.Requests.{has_float, members_have_float, are_objects}
+use Rattle.serde_json.specs.Written.{has_float, members_have_float}
+use Rattle.asm_wire.specs.Requests.{are_objects}
 
 pub members_have_float-values : (ms : List (String Global × Value)) → list_any (λ v. has_float (view v)) (map (λ m. m.1) ms) ≡ members_have_float (members_view ms)
 members_have_float-values [] = refl

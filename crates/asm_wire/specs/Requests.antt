@@ -1,10 +1,11 @@
 -- What a line asks for.
-use Rattle.std.specs.Prelude.{◌≡◌, ℕ, Bool, true, false, not, ◌&&◌, ◌||◌, ◌⊎◌, nat_le, List, [], ◌∷◌, codes, IsUtf8, if◌then◌else◌, Option, Some, None, option_and_then, is_some, is_none, Ok, Err}
+use Rattle.std.specs.Prelude.{◌≡◌, ℕ, Bool, true, false, not, ◌&&◌, ◌⊎◌, nat_le, List, [], ◌∷◌, codes, IsUtf8, if◌then◌else◌, Option, Some, None, option_and_then, is_some, is_none, Ok, Err}
 use Rattle.std.specs.List.{list_any}
 use Rattle.std.specs.Str.{bytes_eq}
-use Rattle.serde_json.specs.Data.{Data, null, boolean, number, string, array, object, Items, no_items, item, Members, no_members, member}
-use Rattle.serde_json.specs.Find.{get, as_object, as_str, as_number, as_u64, is_float}
+use Rattle.serde_json.specs.Data.{Data, null, boolean, number, string, array, object, Members, no_members, member}
+use Rattle.serde_json.specs.Find.{get, as_object, as_str, as_number, as_u64}
 use Rattle.serde_json.specs.Read.{read}
+use Rattle.serde_json.specs.Written.{has_float}
 use Rattle.asm_board.specs.declared.call.Call.{Call}
 use Rattle.asm_board.specs.declared.call.Call.TheVariants as call
 use Rattle.asm_board.specs.Refusals.{Tried, after, needs, is_there, bad_json, bad_request, unbuilt}
@@ -51,25 +52,7 @@ is_pick (string s) = false
 is_pick (array ds) = false
 is_pick (object ms) = false
 
--- some number in it is no whole number of 64 bits
-abbrev mutual
-  pub has_float : Data → Bool
-  has_float null = false
-  has_float (boolean b) = false
-  has_float (number n) = is_float n
-  has_float (string s) = false
-  has_float (array ds) = items_have_float ds
-  has_float (object ms) = members_have_float ms
-
-  pub items_have_float : Items → Bool
-  items_have_float no_items = false
-  items_have_float (item d ds) = has_float d || items_have_float ds
-
-  pub members_have_float : Members → Bool
-  members_have_float no_members = false
-  members_have_float (member key d ms) = has_float d || members_have_float ms
-
--- each member is an object in which no such number is
+-- each member is an object in which each number is a whole number of 64 bits
 abbrev pub are_objects : Members → Bool
 are_objects no_members = true
 are_objects (member key d ms) = (is_some (as_object d) && not (has_float d)) && are_objects ms

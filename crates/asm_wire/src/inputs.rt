@@ -1,6 +1,7 @@
 //! The inputs of a step.
 ghost use Rattle.std.specs.Prelude.{◌≡◌};
 ghost use Rattle.serde_json.specs.View.{view, items_view, members_view};
+ghost use Rattle.serde_json.specs.Written as written;
 ghost use Rattle.asm_wire.specs.Requests as spec;
 
 use serde_json::{Map, Value};
@@ -29,7 +30,7 @@ fn are_objects(members: &Map<String, Value>) -> bool
 
 #[cycle(float)]
 fn has_float(value: &Value) -> bool
-    ensures { result ≡ spec.has_float (view value.now) }
+    ensures { result ≡ written.has_float (view value.now) }
 {
     match value {
         Value::Null | Value::Bool(_) | Value::String(_) => false,
@@ -41,7 +42,7 @@ fn has_float(value: &Value) -> bool
 
 #[cycle(float)]
 fn items_have_float(items: &[Value]) -> bool
-    ensures { result ≡ spec.items_have_float (items_view items.now) }
+    ensures { result ≡ written.items_have_float (items_view items.now) }
 {
     for item in items {
         if has_float(item) {
@@ -54,7 +55,7 @@ fn items_have_float(items: &[Value]) -> bool
 #[cycle(float)]
 #[tactic(auto, using(crate::proofs::Members::members_by_values))]
 fn members_have_float(members: &Map<String, Value>) -> bool
-    ensures { result ≡ spec.members_have_float (members_view members.now.entries) }
+    ensures { result ≡ written.members_have_float (members_view members.now.entries) }
 {
     for member in members.values() {
         if has_float(member) {

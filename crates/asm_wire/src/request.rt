@@ -9,8 +9,8 @@ use crate::fields::{
     number_in, only, optional_inputs, optional_natural, optional_pick, string_in, without,
 };
 use crate::refusal::WireRefusal;
-use crate::words::{is_among, is_identifier};
-use asm_board::Call;
+use crate::words::is_among;
+use asm_board::{Call, is_identifier};
 use asm_value::Text;
 use serde_json::Value;
 use std::alloc::Global;

@@ -1,7 +1,7 @@
 use Rattle.std.proofs.Common.{◌≡◌, drop}
 use Rattle.serde_json.specs.View.{view, items_view, members_view}
 use Rattle.std.specs.List.{list_any}
-use Rattle.asm_wire.specs.Requests.{has_float, items_have_float, members_have_float}
+use Rattle.serde_json.specs.Written.{has_float, items_have_float, members_have_float}
 use Rattle.asm_wire.proofs.inputs.+float.Given as goal
 
 abbrev pub invariant-items_have_float-loop-item : goal.invariant-items_have_float-loop-item

@@ -2,7 +2,8 @@ use Rattle.std.proofs.Common.{◌≡◌, ◌&&◌, is_some, not}
 use Rattle.std.specs.List.{list_all}
 use Rattle.serde_json.specs.Find.{as_object}
 use Rattle.serde_json.specs.View.{view, members_view}
-use Rattle.asm_wire.specs.Requests.{has_float, are_objects}
+use Rattle.serde_json.specs.Written.{has_float}
+use Rattle.asm_wire.specs.Requests.{are_objects}
 use Rattle.asm_wire.proofs.inputs.are_objects.Given as goal
 
 abbrev pub invariant-loop-member : goal.invariant-loop-member
