@@ -2,14 +2,14 @@
 use Rattle.std.proofs.Common.{◌≡◌, List, [], ◌∷◌, ◌++◌, Bool, true, false, inl, inr, sym, refl, ap, ◌∙◌, subst, append_assoc, append-nil}
 use Rattle.std.specs.Prelude.{cond, ◌||◌, Option, Some, None}
 use Rattle.asm_grammar.specs.Language.{Language, Dangles, dangling}
-use Rattle.asm_grammar.specs.Parser.{Reply, Took, Refused, Parser, sees, both, optional}
+use Rattle.asm_grammar.specs.Parser.{Reply, Took, Refused, Parser, and_then, ◌>>=◌, sees, mapped, both, optional}
 use Rattle.asm_grammar.proofs.Exact.{SoundAt, Sound, Ends, Gives, Reaches, Complete, Apart}
 use Rattle.asm_grammar.proofs.Basic.{reaches_any, true_is_false, remade}
 use Rattle.asm_grammar.proofs.Pairs.{or_false, further, regroup, split_on, paired, with_next}
 use Rattle.asm_grammar.proofs.Greedy.{GreedyAt, Greedy}
 
 -- what `optional` answers at a list, by whether its form begins there
-abbrev optional_at : {T W : Type 0} → Parser T W → List T → Bool → Reply T (Option W)
+abbrev pub optional_at : {T W : Type 0} → Parser T W → List T → Bool → Reply T (Option W)
 optional_at q ts x = cond x (remade Some (q ts)) (Took None ts)
 
 -- ---- what is taken is spelled
@@ -67,9 +67,12 @@ abbrev pub dangling_on : {T V W : Type 0} → (T → Bool) → (V → T → Bool
 dangling_on F C C' (v, None) t = F t || C v t
 dangling_on F C C' (v, Some w) t = C' w t
 
-module _ {T V W : Type 0} (X : Bool) (is_closed : V → Bool) {p : Parser T V} {q : Parser T W} {B : Language T V} {M : Language T W}
+-- The parser of what follows may depend on the body's value. After a closed body it is complete, and after any body it leaves
+-- a rest of its list.
+module _ {T V W : Type 0} (X : Bool) (is_closed : V → Bool) {p : Parser T V} (q : V → Parser T W) {B : Language T V} {M : Language T W}
     {G F : T → Bool} {C : V → T → Bool} {C' : W → T → Bool}
-    (c : Complete X p B G C false) (c' : Complete X q M F C' false) (apart : (v : V) → is_closed v ≡ true → Apart (C v) F) where
+    (c : Complete X p B G C false) (c' : (v : V) → is_closed v ≡ true → Complete X (q v) M F C' false)
+    (any : (v : V) (b : List T) → Reaches false b (q v b)) (apart : (v : V) → is_closed v ≡ true → Apart (C v) F) where
   ends_body : (v : V) (b : List T) → Ends (λ t. F t || C v t) b → Ends (C v) b
   ends_body v [] h = tt
   ends_body v (t ∷ b) h = (or_false (F t) (C v t) h).1
@@ -78,22 +81,26 @@ module _ {T V W : Type 0} (X : Bool) (is_closed : V → Bool) {p : Parser T V} {
   unseen v [] h = refl
   unseen v (t ∷ b) h = (or_false (F t) (C v t) h).0
 
-  seen_first : (w : W) (a b : List T) → M.Spells w a → sees F (a ++ b) ≡ true
-  seen_first w [] b sp = absurd (c'.nonempty refl w sp)
-  seen_first w (t ∷ a) b sp = c'.first t a (c'.begins w (t ∷ a) sp)
+  seen_first : (v : V) (w : W) (a b : List T) → is_closed v ≡ true → M.Spells w a → sees F (a ++ b) ≡ true
+  seen_first v w [] b i sp = absurd ((c' v i).nonempty refl w sp)
+  seen_first v w (t ∷ a) b i sp = (c' v i).first t a ((c' v i).begins w (t ∷ a) sp)
 
   ends_more : (v : V) (w : W) (a b : List T) → is_closed v ≡ true → M.Spells w a → Ends (C v) (a ++ b)
-  ends_more v w [] b i sp = absurd (c'.nonempty refl w sp)
-  ends_more v w (t ∷ a) b i sp = apart v i t (c'.first t a (c'.begins w (t ∷ a) sp))
+  ends_more v w [] b i sp = absurd ((c' v i).nonempty refl w sp)
+  ends_more v w (t ∷ a) b i sp = apart v i t ((c' v i).first t a ((c' v i).begins w (t ∷ a) sp))
+
+  -- a body, and what may follow it
+  abbrev body_and_more : Parser T (V × Option W)
+  body_and_more = p >>= (λ v. mapped (λ w. (v, w)) (optional F (q v)))
 
   -- what is read after the body
   abbrev tail : Reply T V → Reply T (V × Option W)
-  tail r = with_next r (optional F q)
+  tail r = and_then r (λ v. mapped (λ w. (v, w)) (optional F (q v)))
 
   none_gives : (v : V) (b : List T) → sees F b ≡ false → (r : Reply T V) → Gives X v b r → Gives {V = V × Option W} X (v, None) b (tail r)
   none_gives v b i (Took u rest) g =
-      subst (λ (x : List T). Gives {V = V × Option W} X (v, None) b (paired u (optional_at q x (sees F x)))) (sym g.1)
-      (subst (λ (x : Bool). Gives {V = V × Option W} X (v, None) b (paired u (optional_at q b x))) (sym i) (ap (λ x. (x, None)) g.0, refl))
+      subst (λ (x : List T). Gives {V = V × Option W} X (v, None) b (paired u (optional_at (q u) x (sees F x)))) (sym g.1)
+      (subst (λ (x : Bool). Gives {V = V × Option W} X (v, None) b (paired u (optional_at (q u) b x))) (sym i) (ap (λ x. (x, None)) g.0, refl))
   none_gives v b i (Refused false rest) g = absurd g
   none_gives v b i (Refused true rest) g = g
 
@@ -103,20 +110,21 @@ module _ {T V W : Type 0} (X : Bool) (is_closed : V → Bool) {p : Parser T V} {
   some_gives_2 u v w b e (Refused false rest) g = absurd g
   some_gives_2 u v w b e (Refused true rest) g = g
 
-  some_gives : (v : V) (w : W) (d b : List T) → sees F d ≡ true → Gives X w b (q d) → (r : Reply T V) → Gives X v d r
+  some_gives : (v : V) (w : W) (d b : List T) → sees F d ≡ true → Gives X w b (q v d) → (r : Reply T V) → Gives X v d r
       → Gives {V = V × Option W} X (v, Some w) b (tail r)
   some_gives v w d b i h (Took u rest) g =
-      subst (λ (x : List T). Gives {V = V × Option W} X (v, Some w) b (paired u (optional_at q x (sees F x)))) (sym g.1)
-      (subst (λ (x : Bool). Gives {V = V × Option W} X (v, Some w) b (paired u (optional_at q d x))) (sym i) (some_gives_2 u v w b g.0 (q d) h))
+      subst (λ (x : List T). Gives {V = V × Option W} X (v, Some w) b (paired u (optional_at (q u) x (sees F x)))) (sym g.1)
+      (subst (λ (x : Bool). Gives {V = V × Option W} X (v, Some w) b (paired u (optional_at (q u) d x))) (sym i)
+      (some_gives_2 u v w b g.0 (q u d) (subst (λ (x : V). Gives X w b (q x d)) (sym g.0) h)))
   some_gives v w d b i h (Refused false rest) g = absurd g
   some_gives v w d b i h (Refused true rest) g = g
 
   dangling_whole : (v : V) (w : Option W) (ts b : List T) → Dangles is_closed B M v w ts → Ends (dangling_on F C C' (v, w)) b
-      → Gives X (v, w) b (both p (optional F q) (ts ++ b))
+      → Gives X (v, w) b (body_and_more (ts ++ b))
   dangling_whole v None ts b h e = none_gives v b (unseen v b e) (p (ts ++ b)) (c.whole v ts b h (ends_body v b e))
   dangling_whole v (Some w) ts b h e =
       subst (λ (x : List T). Gives {V = V × Option W} X (v, Some w) b (tail (p x))) (sym (split_on ts h.0 h.1 b h.2))
-      (some_gives v w (h.1 ++ b) b (seen_first w h.1 b h.5) (c'.whole w h.1 b h.5 e)
+      (some_gives v w (h.1 ++ b) b (seen_first v w h.1 b h.3 h.5) ((c' v h.3).whole w h.1 b h.5 e)
       (p (h.0 ++ (h.1 ++ b))) (c.whole v h.0 (h.1 ++ b) h.4 (ends_more v w h.1 b h.3 h.5)))
 
   -- ---- a partial spelling
@@ -130,8 +138,8 @@ module _ {T V W : Type 0} (X : Bool) (is_closed : V → Bool) {p : Parser T V} {
 
   body_any : (Y : Bool) (b : List T) (r : Reply T V) → Reaches Y b r → Reaches Y b (tail r)
   body_any Y b (Took u rest) h =
-      let r' : Reply T (V × Option W) = paired u (optional F q rest) in
-      further Y b rest r' h (reaches_any Y rest r' (tail_any u rest (sees F rest) (q rest) (c'.any rest)))
+      let r' : Reply T (V × Option W) = paired u (optional F (q u) rest) in
+      further Y b rest r' h (reaches_any Y rest r' (tail_any u rest (sees F rest) (q u rest) (any u rest)))
   body_any Y b (Refused false rest) h = h
   body_any Y b (Refused true rest) h = h
 
@@ -140,23 +148,25 @@ module _ {T V W : Type 0} (X : Bool) (is_closed : V → Bool) {p : Parser T V} {
   some_reaches_2 u b (Refused false rest) g = g
   some_reaches_2 u b (Refused true rest) g = g
 
-  some_reaches : (v : V) (d b : List T) → sees F d ≡ true → Reaches X b (q d) → (r : Reply T V) → Gives X v d r → Reaches X b (tail r)
+  some_reaches : (v : V) (d b : List T) → sees F d ≡ true → Reaches X b (q v d) → (r : Reply T V) → Gives X v d r → Reaches X b (tail r)
   some_reaches v d b i h (Took u rest) g =
-      subst (λ (x : List T). Reaches X b (paired u (optional_at q x (sees F x)))) (sym g.1)
-      (subst (λ (x : Bool). Reaches X b (paired u (optional_at q d x))) (sym i) (some_reaches_2 u b (q d) h))
+      subst (λ (x : List T). Reaches X b (paired u (optional_at (q u) x (sees F x)))) (sym g.1)
+      (subst (λ (x : Bool). Reaches X b (paired u (optional_at (q u) d x))) (sym i)
+      (some_reaches_2 u b (q u d) (subst (λ (x : V). Reaches X b (q x d)) (sym g.0) h)))
   some_reaches v d b i h (Refused false rest) g = absurd g
   some_reaches v d b i h (Refused true rest) g = inl g
 
   dangling_partly_2 : (v : V) (ts a a' b : List T) → ts ≡ a ++ a' → is_closed v ≡ true → B.Spells v a → M.Begins a'
-      → Reaches X b (both p (optional F q) (ts ++ b))
+      → Reaches X b (body_and_more (ts ++ b))
   dangling_partly_2 v ts a [] b e i sp bg =
       body_any X b (p (ts ++ b)) (c.partly ts b (subst (λ x. B.Begins x) (sym (e ∙ append-nil a)) (c.begins v a sp)))
   dangling_partly_2 v ts a (t ∷ a') b e i sp bg =
       let rest : List T = t ∷ a' ++ b in
       subst (λ (x : List T). Reaches X b (tail (p x))) (sym (split_on ts a (t ∷ a') b e))
-      (some_reaches v rest b (c'.first t a' bg) (c'.partly (t ∷ a') b bg) (p (a ++ rest)) (c.whole v a rest sp (apart v i t (c'.first t a' bg))))
+      (some_reaches v rest b ((c' v i).first t a' bg) ((c' v i).partly (t ∷ a') b bg)
+      (p (a ++ rest)) (c.whole v a rest sp (apart v i t ((c' v i).first t a' bg))))
 
-  dangling_partly : (ts b : List T) → (dangling is_closed B M).Begins ts → Reaches X b (both p (optional F q) (ts ++ b))
+  dangling_partly : (ts b : List T) → (dangling is_closed B M).Begins ts → Reaches X b (body_and_more (ts ++ b))
   dangling_partly ts b (inl bg) = body_any X b (p (ts ++ b)) (c.partly ts b bg)
   dangling_partly ts b (inr h) = dangling_partly_2 h.0 ts h.1 h.2 b h.3 h.4 h.5 h.6
 
@@ -179,10 +189,10 @@ module _ {T V W : Type 0} (X : Bool) (is_closed : V → Bool) {p : Parser T V} {
 
   dangling_begins : (v : V) (w : Option W) (ts : List T) → Dangles is_closed B M v w ts → (dangling is_closed B M).Begins ts
   dangling_begins v None ts h = inl (c.begins v ts h)
-  dangling_begins v (Some w) ts h = inr (v, h.0, h.1, h.2, h.3, h.4, c'.begins w h.1 h.5)
+  dangling_begins v (Some w) ts h = inr (v, h.0, h.1, h.2, h.3, h.4, (c' v h.3).begins w h.1 h.5)
 
-  pub complete-dangling : Complete X (both p (optional F q)) (dangling is_closed B M) G (dangling_on F C C') false
-  complete-dangling = record {
+  pub complete-body : Complete X body_and_more (dangling is_closed B M) G (dangling_on F C C') false
+  complete-body = record {
     whole = λ v ts b h e. dangling_whole v.0 v.1 ts b h e;
     partly = dangling_partly;
     any = λ b. body_any false b (p b) (c.any b);
@@ -190,3 +200,9 @@ module _ {T V W : Type 0} (X : Bool) (is_closed : V → Bool) {p : Parser T V} {
     nonempty = λ n v h. dangling_nonempty v.0 v.1 h;
     begins = λ v ts h. dangling_begins v.0 v.1 ts h;
   }
+
+pub complete-dangling : {T V W : Type 0} (X : Bool) (is_closed : V → Bool) {p : Parser T V} {q : Parser T W} {B : Language T V} {M : Language T W}
+    {G F : T → Bool} {C : V → T → Bool} {C' : W → T → Bool} → Complete X p B G C false → Complete X q M F C' false
+    → ((v : V) → is_closed v ≡ true → Apart (C v) F)
+    → Complete X (both p (optional F q)) (dangling is_closed B M) G (dangling_on F C C') false
+complete-dangling X is_closed {p} {q} c c' apart = complete-body X is_closed (λ v. q) c (λ v i. c') (λ v. c'.any) apart

@@ -1,10 +1,11 @@
 -- What holds of each value that a parser takes, with what is left after it; and the parsers that leave nothing which may go on.
 use Rattle.std.proofs.Common.{◌≡◌, List, Bool, true, false, refl}
 use Rattle.std.specs.Prelude.{cond, Option, Some, None}
-use Rattle.asm_grammar.specs.Parser.{Reply, Took, Refused, Parser, sees, choose, mapped, both, optional}
+use Rattle.asm_grammar.specs.Parser.{Reply, Took, Refused, Parser, sees, choose, mapped, both, optional, taken, measured}
 use Rattle.asm_grammar.proofs.Exact.{Ends}
 use Rattle.asm_grammar.proofs.Basic.{remade}
 use Rattle.asm_grammar.proofs.Pairs.{with_next}
+use Rattle.asm_grammar.proofs.Spans.{with_span}
 
 -- ---- a fact of each value and what is left
 
@@ -50,6 +51,26 @@ optional_at P F ts r h n false i = n i
 pub good-optional : {T V : Type 0} (P : Option V → List T → Type 0) (F : T → Bool) (p : Parser T V)
     → Good (λ v rest. P (Some v) rest) p → ((ts : List T) → sees F ts ≡ false → P None ts) → Good P (optional F p)
 good-optional P F p h n ts = optional_at P F ts (p ts) (h ts) (n ts) (sees F ts) refl
+
+measured_at : {T V W S : Type 0} (P : W → List T → Type 0) (span : List T → S) (f : S → V → W) (ts : List T) (r : Reply T V)
+    → GoodAt (λ v rest. (s : S) → P (f s v) rest) r → GoodAt P (with_span span f ts r)
+measured_at P span f ts (Took v rest) h = h (span (taken ts rest))
+measured_at P span f ts (Refused x rest) h = tt
+
+-- what holds whatever the span is
+pub good-measured : {T V W S : Type 0} (P : W → List T → Type 0) (span : List T → S) (f : S → V → W) (p : Parser T V)
+    → Good (λ v rest. (s : S) → P (f s v) rest) p → Good P (measured span f p)
+good-measured P span f p h ts = measured_at P span f ts (p ts) (h ts)
+
+weaken_at : {T V : Type 0} (P Q : V → List T → Type 0) (h : (v : V) (rest : List T) → P v rest → Q v rest) (r : Reply T V)
+    → GoodAt P r → GoodAt Q r
+weaken_at P Q h (Took v rest) g = h v rest g
+weaken_at P Q h (Refused x rest) g = tt
+
+-- what follows from it holds too
+pub good-weaken : {T V : Type 0} (P Q : V → List T → Type 0) (p : Parser T V) → ((v : V) (rest : List T) → P v rest → Q v rest)
+    → Good P p → Good Q p
+good-weaken P Q p h g ts = weaken_at P Q h (p ts) (g ts)
 
 always_at : {T V : Type 0} (P : V → List T → Type 0) (h : (v : V) (rest : List T) → P v rest) (r : Reply T V) → GoodAt P r
 always_at P h (Took v rest) = h v rest

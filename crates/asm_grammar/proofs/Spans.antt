@@ -1,8 +1,8 @@
 -- What is made of a value and of the span that it was read from.
-use Rattle.std.proofs.Common.{◌≡◌, ◌-◌, ◌+◌, List, [], ◌∷◌, ◌++◌, length, take, Bool, true, false, sym, refl, ap, ◌∙◌, length-append, arith}
+use Rattle.std.proofs.Common.{◌≡◌, ◌-◌, ◌+◌, List, [], ◌∷◌, ◌++◌, length, take, Bool, true, false, sym, refl, ap, ◌∙◌, subst, length-append, arith}
 use Rattle.asm_grammar.specs.Language.{Language, spanned}
 use Rattle.asm_grammar.specs.Parser.{Reply, Took, Refused, Parser, and_then, taken, measured}
-use Rattle.asm_grammar.proofs.Exact.{SoundAt, Sound, Gives, Reaches, Complete}
+use Rattle.asm_grammar.proofs.Exact.{SoundAt, Sound, Ends, Gives, Reaches, Complete}
 
 take_front : {T : Type 0} (a b : List T) → take (length a) (a ++ b) ≡ a
 take_front [] b = refl
@@ -16,7 +16,7 @@ taken_front {T} a b =
 
 module _ {T V W S : Type 0} (span : List T → S) (f : S → V → W) where
   -- a reply at ts, with what f makes of its value and of the span of what was taken
-  abbrev with_span : List T → Reply T V → Reply T W
+  abbrev pub with_span : List T → Reply T V → Reply T W
   with_span ts r = and_then r (λ v rest. Took (f (span (taken ts rest)) v) rest)
 
   measured_at : (L M : Language T V) (ts : List T) (r : Reply T V) → SoundAt L M ts r
@@ -45,13 +45,21 @@ module _ {T V W S : Type 0} (span : List T → S) (f : S → V → W) where
   measured_reaches X ts b (Refused false rest) g = g
   measured_reaches X ts b (Refused true rest) g = g
 
-  pub complete-spanned : {X : Bool} {p : Parser T V} {L : Language T V} {F : T → Bool} {C : T → Bool} {e : Bool}
-      → Complete X p L F (λ v. C) e → Complete X (measured span f p) (spanned span f L) F (λ w. C) e
-  complete-spanned {X} {p} {L} c = record {
-    whole = λ w a b s h. measured_gives X s.0 w a b (p (a ++ b)) s.1 (c.whole s.0 a b s.2 h);
+  -- C' has what goes on with the values that f makes
+  pub complete-spanned : {X : Bool} {p : Parser T V} {L : Language T V} {F : T → Bool} {C : V → T → Bool} {e : Bool}
+      → (C' : W → T → Bool) → ((s : S) (v : V) (t : T) → C' (f s v) t ≡ false → C v t ≡ false)
+      → Complete X p L F C e → Complete X (measured span f p) (spanned span f L) F C' e
+  complete-spanned {X} {p} {L} {F} {C} {e} C' on c = record {
+    whole = λ w a b s h.
+        measured_gives X s.0 w a b (p (a ++ b)) s.1
+        (c.whole s.0 a b s.2 (ends (span a) s.0 b (subst (λ x. Ends (C' x) b) s.1 h)));
     partly = λ a b s. measured_reaches X (a ++ b) b (p (a ++ b)) (c.partly a b s);
     any = λ b. measured_reaches false b b (p b) (c.any b);
     first = c.first;
     nonempty = λ e w s. c.nonempty e s.0 s.2;
     begins = λ w a s. c.begins s.0 a s.2;
   }
+    where
+      ends : (s : S) (v : V) (b : List T) → Ends (C' (f s v)) b → Ends (C v) b
+      ends s v [] h = tt
+      ends s v (t ∷ b) h = on s v t h
