@@ -2,5 +2,15 @@ pub mod Bytes
 pub mod Words
 pub mod Lexes
 pub mod Marks
+pub mod Forms
+pub mod Domains
+pub mod Heights
+pub mod Extents
+pub mod Terms
+pub mod Rules
+pub mod Models
 pub mod Grammar
+pub mod Refusals
 pub mod Texts
+pub mod Written
+pub mod Canonical

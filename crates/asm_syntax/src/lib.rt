@@ -3,6 +3,7 @@
 
 mod fault;
 mod places;
+mod spans;
 #[cfg(test)]
 mod tests;
 mod token;
@@ -12,4 +13,7 @@ pub use asm_base::{Boxed, List as Row, Text as Name};
 pub use fault::Fault;
 pub use places::{LineColumn, place};
 pub use token::{Span, Token, TokenKind};
-pub use tree::{DeclTree, DomainTree, ModelTree, RuleTree, TermTree};
+pub use tree::{
+    BindTree, BindsTree, CaseTree, DeclTree, DefTree, DomainTree, InitTree, IntTree, ModelTree,
+    ParamsTree, RangeTree, RangesTree, RuleCaseTree, RuleTree, StartTree, TermTree, TermsTree,
+};

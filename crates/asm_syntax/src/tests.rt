@@ -1,5 +1,5 @@
-//! Places of a text, and copies of its tokens.
-use crate::{LineColumn, Name, Span, Token, TokenKind, place};
+//! Places of a text, copies of its tokens, and spans of its trees.
+use crate::{DomainTree, LineColumn, Name, RuleTree, Span, TermTree, Token, TokenKind, place};
 use std::test::Fail;
 
 #[test]
@@ -32,5 +32,18 @@ fn a_token_is_copied_whole(rt: HostRuntime) -> Result<(), Fail> {
     let shown = format!(in alloc; "{copy:?}")?;
     let want = format!(in alloc; "{token:?}")?;
     assert_eq!(rt; shown.as_str(), want.as_str());
+    Ok(())
+}
+
+#[test]
+fn a_tree_tells_where_it_stands(rt: HostRuntime) -> Result<(), Fail> {
+    let span = Span { start: 3, end: 9 };
+    let name = Token {
+        kind: TokenKind::Id(Name::from_str(rt.alloc(), "x")?),
+        span: Span { start: 4, end: 5 },
+    };
+    assert_eq!(rt; TermTree::Name(name, None, span).span(), span);
+    assert_eq!(rt; RuleTree::Skip(span).span(), span);
+    assert_eq!(rt; DomainTree::Boolean(span).span(), span);
     Ok(())
 }
