@@ -4,16 +4,7 @@ use Rattle.std.specs.Prelude.{not, ◌||◌, ◌&&◌}
 use Rattle.std.proofs.lemmas.Slice.Eq.{bytes_eq-Decides}
 use Rattle.asm_syntax.specs.declared.token.Token.{Token}
 use Rattle.asm_syntax.specs.Marks.{Mark, keyword, symbol, id, variable, number, chars, refused, mark_of, same}
-
--- whether the mark is one of these
-abbrev pub has : List Mark → Mark → Bool
-has [] m = false
-has (c ∷ []) m = same c m
-has (c ∷ d ∷ cs) m = same c m || has (d ∷ cs) m
-
--- whether the token's mark is one of these
-abbrev pub among : List Mark → Token → Bool
-among cs t = has cs (mark_of t.kind)
+use Rattle.asm_parse_theory.specs.Firsts.{has, among}
 
 abbrev every : (Mark → Bool) → List Mark → Bool
 every f [] = true

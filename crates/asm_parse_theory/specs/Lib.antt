@@ -1,1 +1,6 @@
-pub mod Reading
+pub mod Firsts
+pub mod Forms
+pub mod Domains
+pub mod Terms
+pub mod Rules
+pub mod Models
