@@ -1,0 +1,4 @@
+pub mod Lines
+pub mod Nests
+pub mod Parts
+pub mod Starts

@@ -1,0 +1,20 @@
+-- Heights of the parts of terms.
+use Rattle.std.specs.Prelude.{ℕ}
+use Rattle.asm_syntax.specs.declared.tree.TermTree.TheFolds.{fold-BindTree, fold-BindsTree, fold-CaseTree, fold-TermsTree}
+use Rattle.asm_syntax.specs.declared.tree.TermsTree.{TermsTree}
+use Rattle.asm_syntax.specs.declared.tree.BindTree.{BindTree}
+use Rattle.asm_syntax.specs.declared.tree.BindsTree.{BindsTree}
+use Rattle.asm_syntax.specs.declared.tree.CaseTree.{CaseTree}
+use Rattle.asm_syntax.specs.Heights.{term_step, bind_step, binds_step, case_step, terms_step}
+
+unfoldable pub bind_height : BindTree → ℕ
+bind_height = fold-BindTree ℕ ℕ ℕ ℕ ℕ term_step bind_step binds_step case_step terms_step
+
+unfoldable pub binds_height : BindsTree → ℕ
+binds_height = fold-BindsTree ℕ ℕ ℕ ℕ ℕ term_step bind_step binds_step case_step terms_step
+
+unfoldable pub case_height : CaseTree → ℕ
+case_height = fold-CaseTree ℕ ℕ ℕ ℕ ℕ term_step bind_step binds_step case_step terms_step
+
+unfoldable pub terms_height : TermsTree → ℕ
+terms_height = fold-TermsTree ℕ ℕ ℕ ℕ ℕ term_step bind_step binds_step case_step terms_step
