@@ -1,100 +1,140 @@
--- What the reading of a whole list of tokens answers, and then of a text.
-use Rattle.std.proofs.Common.{◌≡◌, ◌≢◌, ℕ, List, [], ◌∷◌, length, Result, Ok, Err, sym, refl, subst, arith}
-use Rattle.std.specs.Result.{IfErr, IsErrAnd}
-use Rattle.asm_grammar.specs.Parser.{Took, Refused}
-use Rattle.asm_grammar.proofs.Whole.{AnswerIs}
+-- What the reading of a whole list of tokens answers.
+use Rattle.std.proofs.Common.{◌≡◌, ◌≢◌, ◌∙◌, ℕ, Bool, List, [], ◌∷◌, length, Result, Ok, Err, Option, Some, None, true, false, sym, refl, ap, subst, arith}
+use Rattle.asm_grammar.specs.Parser.{Reply, Took, Refused, mapped}
 use Rattle.asm_syntax.specs.declared.token.Token.{Token}
+use Rattle.asm_syntax.specs.declared.tree.TermTree.{TermTree}
 use Rattle.asm_syntax.specs.declared.tree.ModelTree.{ModelTree}
-use Rattle.asm_syntax.specs.Grammar.{model}
-use Rattle.asm_syntax.specs.Texts.{IsModel}
-use Rattle.asm_syntax.specs.Lexes.{Stop, Lexes}
-use Rattle.asm_parse_theory.specs.Reading as reading
-use Rattle.asm_parse_theory.proofs.Whole.{model_answer, model_unique}
-use Rattle.asm_parse_theory.proofs.Fronts.{model_one_cause, model_no_syntax, model_no_deep}
-use Rattle.asm_lex.specs.declared.LexRefusal.{LexRefusal}
-use Rattle.asm_lex.specs.Answers.{AreTokens, HasNoTokens, IsFirst, IsRefusal}
-use Rattle.asm_lex.specs.Answers as lexing
+use Rattle.asm_syntax.specs.Forms.{second}
+use Rattle.asm_syntax.specs.Models.{Import}
+use Rattle.asm_syntax.specs.Marks.{text_of}
+use Rattle.asm_syntax.specs.Grammar.{term, SpellsModel, last_part}
+use Rattle.asm_syntax.specs.Refusals as refusals
+use Rattle.asm_syntax.specs.Refusals.{Refusal, IsTermRefusal, IsModelRefusal, syntax_refusal, place_of}
+use Rattle.asm_parse_theory.specs.Models as r
+use Rattle.asm_parse_theory.specs.Terms as t
+use Rattle.asm_parse_theory.proofs.ModelRefusals as models
+use Rattle.asm_parse_theory.proofs.TermRefusals as terms
+use Rattle.asm_cursor.specs.declared.refusal.GrammarRefusal.{GrammarRefusal}
+use Rattle.asm_cursor.specs.declared.refusal.GrammarRefusal.TheVariants as grammar
+use Rattle.asm_cursor.specs.Reads.{is_too_deep}
 use Rattle.asm_parse.specs.declared.refusal.ParseRefusal.{ParseRefusal}
-use Rattle.asm_parse.specs.declared.refusal.ParseRefusal.TheVariants.{Lex, Syntax, TooDeep, NoMemory}
-use Rattle.asm_parse.specs.declared.refusal.GrammarRefusal.{GrammarRefusal}
-use Rattle.asm_parse.specs.declared.refusal.GrammarRefusal.TheVariants as grammar
-use Rattle.asm_parse.specs.Reads.{is_too_deep}
-use Rattle.asm_parse.specs.Refusals.{unread}
-use Rattle.asm_parse.specs.Answers.{unlimited_model, IsRefusedAt, AnswersTokens, IsRead, IsRefused, IsCause, IsTold}
+use Rattle.asm_parse.specs.declared.refusal.ParseRefusal.TheVariants.{Lex, Syntax, Unsupported, TooDeep, NoMemory}
+use Rattle.asm_parse.specs.Answers.{IsRead, IsTold}
+use Rattle.asm_parse.specs.Refusals.{told, Tells, TellsWhy}
+use Rattle.asm_parse.specs.Tokens.{IsRefusedFor, Answers, AnswersModel, AnswersTerm}
 
--- ---- whole lists of tokens
+module _ {Tree : Type 0} (Spells : Tree → List Token → Type 0) (IsRefusal : List Token → Refusal → List Token → Type 0) where
+  -- a refusal that is told
+  pub refused_so : (bytes : ℕ) (ts rest : List Token) (why : Refusal) (e : ParseRefusal) → IsRefusal ts why rest → Tells bytes why rest e
+      → Answers Spells IsRefusal bytes ts (Err e)
+  refused_so bytes ts rest why NoMemory h told = tt
+  refused_so bytes ts rest why (Lex w) h told = record { why = why; rest = rest; refused = h; there = told }
+  refused_so bytes ts rest why (Syntax at) h told = record { why = why; rest = rest; refused = h; there = told }
+  refused_so bytes ts rest why (Unsupported w at) h told = record { why = why; rest = rest; refused = h; there = told }
+  refused_so bytes ts rest why (TooDeep at) h told = record { why = why; rest = rest; refused = h; there = told }
 
-pub read_to_end : (ts rest : List Token) (tree : ModelTree) → reading.model 64 ts ≡ Took tree rest → length rest ≡ 0 → model.Spells tree ts
-read_to_end ts [] tree e none = (subst (λ r. AnswerIs model unlimited_model ts r) e (model_answer ts)).0
-read_to_end ts (t ∷ rest) tree e none = absurd (omega arith)
+  module _ (ts : List Token) (not_both : (tree : Tree) (why : Refusal) (rest : List Token) → Spells tree ts → IsRefusal ts why rest → ⊥) where
+    -- a tree that is spelled is the one that was read
+    pub only_tokens : ((t u : Tree) → Spells t ts → Spells u ts → t ≡ u)
+        → (bytes : ℕ) (result : Result Tree ParseRefusal) → Answers Spells IsRefusal bytes ts result → (tree : Tree) → Spells tree ts → IsRead tree result
+    only_tokens unique bytes (Ok found) h tree s = unique found tree h s
+    only_tokens unique bytes (Err NoMemory) h tree s = tt
+    only_tokens unique bytes (Err (Lex w)) h tree s = not_both tree h.why h.rest s h.refused
+    only_tokens unique bytes (Err (Syntax at)) h tree s = not_both tree h.why h.rest s h.refused
+    only_tokens unique bytes (Err (Unsupported w at)) h tree s = not_both tree h.why h.rest s h.refused
+    only_tokens unique bytes (Err (TooDeep at)) h tree s = not_both tree h.why h.rest s h.refused
 
-pub read_in_part : (ts rest : List Token) (tree : ModelTree) → reading.model 64 ts ≡ Took tree rest → (length rest ≡ 0 → ⊥) → AnswersTokens ts (Err Syntax)
-read_in_part ts [] tree e some = absurd (some refl)
-read_in_part ts (t ∷ rest) tree e some = (t ∷ rest, subst (λ r. AnswerIs model unlimited_model ts r) e (model_answer ts))
+    module _ (one : (why why' : Refusal) (rest rest' : List Token) → IsRefusal ts why rest → IsRefusal ts why' rest' → (why ≡ why') × (rest ≡ rest')) where
+      same_told : (bytes : ℕ) (e : ParseRefusal) → IsRefusedFor Spells IsRefusal bytes ts e → (why : Refusal) (rest : List Token) → IsRefusal ts why rest
+          → e ≡ told why (place_of bytes rest)
+      same_told bytes e h why rest given =
+          let same = one h.why why h.rest rest h.refused given in
+          h.there ∙ ap (λ w. told w (place_of bytes h.rest)) same.0 ∙ ap (λ z. told why (place_of bytes z)) same.1
 
-not_read : (why : GrammarRefusal) (ts rest : List Token) → (why ≢ grammar.NoMemory → reading.model 64 ts ≡ Refused (is_too_deep why) rest) → AnswersTokens ts (Err (unread why))
-not_read grammar.NoMemory ts rest h = tt
-not_read grammar.Syntax ts rest h = (rest, subst (λ r. AnswerIs model unlimited_model ts r) (h (λ e. cc)) (model_answer ts))
-not_read grammar.TooDeep ts rest h = (rest, subst (λ r. AnswerIs model unlimited_model ts r) (h (λ e. cc)) (model_answer ts))
+      err : ParseRefusal → Result Tree ParseRefusal
+      err e = Err e
 
-pub told_unread : (result : Result ModelTree ParseRefusal) (why : GrammarRefusal) (ts rest : List Token) → (why ≢ grammar.NoMemory → reading.model 64 ts ≡ Refused (is_too_deep why) rest)
-    → IsErrAnd result (λ e. e ≡ unread why) → AnswersTokens ts result
-told_unread (Ok tree) why ts rest h told = absurd told
-told_unread (Err e) why ts rest h told = subst (λ x. AnswersTokens ts (Err x)) (sym told) (not_read why ts rest h)
+      -- a refusal that the tokens have is the one that was told
+      pub told_tokens : (bytes : ℕ) (result : Result Tree ParseRefusal) → Answers Spells IsRefusal bytes ts result
+          → (why : Refusal) (rest : List Token) → IsRefusal ts why rest → IsTold (told why (place_of bytes rest)) result
+      unfolding err
+      told_tokens bytes (Ok tree) h why rest given = absurd (not_both tree why rest h given)
+      told_tokens bytes (Err NoMemory) h why rest given = tt
+      told_tokens bytes (Err (Lex w)) h why rest given = ap err (same_told bytes (Lex w) h why rest given)
+      told_tokens bytes (Err (Syntax at)) h why rest given = ap err (same_told bytes (Syntax at) h why rest given)
+      told_tokens bytes (Err (Unsupported w at)) h why rest given = ap err (same_told bytes (Unsupported w at) h why rest given)
+      told_tokens bytes (Err (TooDeep at)) h why rest given = ap err (same_told bytes (TooDeep at) h why rest given)
 
--- ---- texts whose tokens are these
+-- ---- models
 
-module _ (text : List ℕ) (tokens : List Token) (are : AreTokens text tokens)
-    (only : (ts : List Token) → AreTokens text ts → lexing.Answers (Ok tokens) (Ok ts)) where
-  same : (ts : List Token) → AreTokens text ts → ts ≡ tokens
-  same ts h = let e = only ts h in cc
+model_so : (bytes : ℕ) (ts rest : List Token) (why : Refusal) (e : ParseRefusal) → IsModelRefusal ts why rest → Tells bytes why rest e → AnswersModel bytes ts (Err e)
+model_so = refused_so SpellsModel IsModelRefusal
 
-  spelled : (tree : ModelTree) → IsModel text tree → model.Spells tree tokens
-  spelled tree m = subst (λ ts. model.Spells tree ts) (same m.tokens (m.short, m.lexes)) m.spells
+-- what stands behind a pair that was read, where only its second part is kept
+behind : (reply : Reply Token (List Import × ModelTree)) (tree : ModelTree) (rest : List Token) → mapped second (λ ts. reply) [] ≡ Took tree rest
+    → (imports : List Import) × (reply ≡ Took (imports, tree) rest)
+behind (Took (imports, found) left) tree rest e = (imports, cc)
+behind (Refused is_too_deep left) tree rest e = absurd cc
 
-  pub only_in : (result : Result ModelTree ParseRefusal) → AnswersTokens tokens result → (tree : ModelTree) → IsModel text tree → IsRead tree result
-  only_in (Ok found) h tree m = model_unique tokens found tree h (spelled tree m)
-  only_in (Err (Lex why)) h tree m = h.1
-  only_in (Err Syntax) h tree m = model_no_syntax tokens h.0 tree (spelled tree m) h.1
-  only_in (Err TooDeep) h tree m = model_no_deep tokens h.0 tree (spelled tree m) h.1
-  only_in (Err NoMemory) h tree m = tt
+refused_behind : (reply : Reply Token (List Import × ModelTree)) (is_too_deep : Bool) (rest : List Token) → mapped second (λ ts. reply) [] ≡ Refused is_too_deep rest
+    → reply ≡ Refused is_too_deep rest
+refused_behind (Took (imports, found) left) is_too_deep rest e = absurd cc
+refused_behind (Refused deep left) is_too_deep rest e = cc
 
-  pub refused_in : (result : Result ModelTree ParseRefusal) → AnswersTokens tokens result → IfErr result (λ why. IsRefused text why)
-  refused_in (Ok tree) h = tt
-  refused_in (Err (Lex why)) h = λ tree m. only_in (Err (Lex why)) h tree m
-  refused_in (Err Syntax) h = λ tree m. only_in (Err Syntax) h tree m
-  refused_in (Err TooDeep) h = λ tree m. only_in (Err TooDeep) h tree m
-  refused_in (Err NoMemory) h = tt
+model_to_end : (bytes : ℕ) (ts rest : List Token) (imports : List Import) (tree : ModelTree) → r.first_foreign ts ≡ None → r.model 64 ts ≡ Took (imports, tree) rest
+    → length rest ≡ 0 → AnswersModel bytes ts (Ok tree)
+model_to_end bytes ts [] imports tree none e nothing = models.tree_found ts imports tree none e
+model_to_end bytes ts (t ∷ rest) imports tree none e nothing = absurd (omega arith)
 
-  -- the tokens' own refusal is the text's
-  moved : (why : ParseRefusal) (ts rest : List Token) → AreTokens text ts → IsRefusedAt ts why rest → IsRefusedAt tokens why rest
-  moved why ts rest h r = subst (λ z. IsRefusedAt z why rest) (same ts h) r
+model_in_part : (bytes : ℕ) (ts rest : List Token) (v : List Import × ModelTree) (e : ParseRefusal) → r.first_foreign ts ≡ None → r.model 64 ts ≡ Took v rest
+    → (length rest ≡ 0 → ⊥) → Tells bytes (syntax_refusal rest) rest e → AnswersModel bytes ts (Err e)
+model_in_part bytes ts [] v e none took some tells = absurd (some refl)
+model_in_part bytes ts (t ∷ rest) v e none took some tells = model_so bytes ts (t ∷ rest) (syntax_refusal (t ∷ rest)) e (models.left_refusal ts v t rest none took) tells
 
-  module _ (first : (ts : List Token) (e : LexRefusal) → IsFirst text ts e → lexing.Answers (Ok tokens) (Err e)) where
-    told_syntax : (result : Result ModelTree ParseRefusal) (rest : List Token) → AnswersTokens tokens result → IsRefusedAt tokens Syntax rest → IsTold Syntax result
-    told_syntax (Ok tree) rest h r = absurd (model_no_syntax tokens rest tree h r)
-    told_syntax (Err (Lex why)) rest h r = absurd h.1
-    told_syntax (Err Syntax) rest h r = refl
-    told_syntax (Err TooDeep) rest h r = absurd (model_one_cause tokens rest h.0 r h.1)
-    told_syntax (Err NoMemory) rest h r = tt
+model_not_read : (bytes : ℕ) (why : GrammarRefusal) (ts rest : List Token) (e : ParseRefusal) → r.first_foreign ts ≡ None
+    → (why ≢ grammar.NoMemory → r.model 64 ts ≡ Refused (is_too_deep why) rest) → TellsWhy bytes why rest e → AnswersModel bytes ts (Err e)
+model_not_read bytes grammar.NoMemory ts rest e none h tells = subst (λ x. AnswersModel bytes ts (Err x)) (sym tells) tt
+model_not_read bytes grammar.Syntax ts rest e none h tells = model_so bytes ts rest (syntax_refusal rest) e (models.found_syntax ts rest none (h (λ x. cc))) tells
+model_not_read bytes grammar.TooDeep ts rest e none h tells = model_so bytes ts rest refusals.TooDeep e (models.found_too_deep ts rest none (h (λ x. cc))) tells
 
-    told_deep : (result : Result ModelTree ParseRefusal) (rest : List Token) → AnswersTokens tokens result → IsRefusedAt tokens TooDeep rest → IsTold TooDeep result
-    told_deep (Ok tree) rest h r = absurd (model_no_deep tokens rest tree h r)
-    told_deep (Err (Lex why)) rest h r = absurd h.1
-    told_deep (Err Syntax) rest h r = absurd (model_one_cause tokens h.0 rest h.1 r)
-    told_deep (Err TooDeep) rest h r = refl
-    told_deep (Err NoMemory) rest h r = tt
+pub tree_to_end : (bytes : ℕ) (ts rest : List Token) (tree : ModelTree) → r.first_foreign ts ≡ None → mapped second (r.model 64) ts ≡ Took tree rest
+    → length rest ≡ 0 → AnswersModel bytes ts (Ok tree)
+tree_to_end bytes ts rest tree none e nothing =
+    let read = behind (r.model 64 ts) tree rest e in
+    model_to_end bytes ts rest read.0 tree none read.1 nothing
 
-    pub first_in : (result : Result ModelTree ParseRefusal) → AnswersTokens tokens result → (why : ParseRefusal) → IsCause text why → IsTold why result
-    first_in result h NoMemory c = absurd c
-    first_in result h (Lex why) c = let e : Ok tokens ≡ Err why = first c.0 why c.1 in absurd (cc e)
-    first_in result h Syntax c = told_syntax result c.2.0 h (moved Syntax c.0 c.2.0 c.1 c.2.1)
-    first_in result h TooDeep c = told_deep result c.2.0 h (moved TooDeep c.0 c.2.0 c.1 c.2.1)
+pub tree_in_part : (bytes : ℕ) (ts rest : List Token) (tree : ModelTree) (e : ParseRefusal) → r.first_foreign ts ≡ None → mapped second (r.model 64) ts ≡ Took tree rest
+    → (length rest ≡ 0 → ⊥) → Tells bytes (syntax_refusal rest) rest e → AnswersModel bytes ts (Err e)
+tree_in_part bytes ts rest tree e none took some tells =
+    let read = behind (r.model 64 ts) tree rest took in
+    model_in_part bytes ts rest (read.0, tree) e none read.1 some tells
 
--- ---- one tree
+pub tree_not_read : (bytes : ℕ) (why : GrammarRefusal) (ts rest : List Token) (e : ParseRefusal) → r.first_foreign ts ≡ None
+    → (why ≢ grammar.NoMemory → mapped second (r.model 64) ts ≡ Refused (is_too_deep why) rest) → TellsWhy bytes why rest e → AnswersModel bytes ts (Err e)
+tree_not_read bytes why ts rest e none h tells =
+    model_not_read bytes why ts rest e none (λ some. refused_behind (r.model 64 ts) (is_too_deep why) rest (h some)) tells
 
-pub one_tree_of : ((text : List ℕ) (ts us : List Token) (s t : Stop) → Lexes 0 text ts s → Lexes 0 text us t → (ts ≡ us) × (s ≡ t))
-    → (text : List ℕ) (t u : ModelTree) → IsModel text t → IsModel text u → t ≡ u
-one_tree_of one text t u m n =
-    let same : n.tokens ≡ m.tokens = (one text n.tokens m.tokens _ _ n.lexes m.lexes).0 in
-    model_unique m.tokens t u m.spells (subst (λ ts. model.Spells u ts) same n.spells)
+pub model_foreign : (bytes : ℕ) (ts rest : List Token) (given : Import) (e : ParseRefusal) → r.first_foreign ts ≡ Some (given, rest)
+    → Tells bytes (refusals.Unsupported (text_of (last_part given))) rest e → AnswersModel bytes ts (Err e)
+model_foreign bytes ts rest given e found tells =
+    model_so bytes ts rest (refusals.Unsupported (text_of (last_part given))) e (models.foreign_refusal ts given rest found) tells
+
+-- ---- terms
+
+term_so : (bytes : ℕ) (ts rest : List Token) (why : Refusal) (e : ParseRefusal) → IsTermRefusal ts why rest → Tells bytes why rest e → AnswersTerm bytes ts (Err e)
+term_so = refused_so (λ tree tokens. term.Spells tree tokens) IsTermRefusal
+
+pub term_to_end : (bytes : ℕ) (ts rest : List Token) (tree : TermTree) → t.term 64 ts ≡ Took tree rest → length rest ≡ 0 → AnswersTerm bytes ts (Ok tree)
+term_to_end bytes ts [] tree e nothing = terms.term_sound ts tree e
+term_to_end bytes ts (u ∷ rest) tree e nothing = absurd (omega arith)
+
+pub term_in_part : (bytes : ℕ) (ts rest : List Token) (v : TermTree) (e : ParseRefusal) → t.term 64 ts ≡ Took v rest
+    → (length rest ≡ 0 → ⊥) → Tells bytes (syntax_refusal rest) rest e → AnswersTerm bytes ts (Err e)
+term_in_part bytes ts [] v e took some tells = absurd (some refl)
+term_in_part bytes ts (u ∷ rest) v e took some tells = term_so bytes ts (u ∷ rest) (syntax_refusal (u ∷ rest)) e (terms.left_refusal ts v u rest took) tells
+
+pub term_not_read : (bytes : ℕ) (why : GrammarRefusal) (ts rest : List Token) (e : ParseRefusal)
+    → (why ≢ grammar.NoMemory → t.term 64 ts ≡ Refused (is_too_deep why) rest) → TellsWhy bytes why rest e → AnswersTerm bytes ts (Err e)
+term_not_read bytes grammar.NoMemory ts rest e h tells = subst (λ x. AnswersTerm bytes ts (Err x)) (sym tells) tt
+term_not_read bytes grammar.Syntax ts rest e h tells = term_so bytes ts rest (syntax_refusal rest) e (terms.found_syntax ts rest (h (λ x. cc))) tells
+term_not_read bytes grammar.TooDeep ts rest e h tells = term_so bytes ts rest refusals.TooDeep e (terms.found_too_deep ts rest (h (λ x. cc))) tells

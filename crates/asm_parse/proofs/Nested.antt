@@ -1,28 +1,37 @@
--- One turn of a loop that reads a list, and what stands one construct deeper.
-use Rattle.std.proofs.Common.{◌≡◌, ◌∙◌, ◌-◌, ◌+◌, ◌<◌, ℕ, zero, suc, true, List, [], ◌∷◌, ◌++◌, sym, ap, refl, arith, cond, Bool}
-use Rattle.asm_grammar.specs.Parser.{Reply, Took, Parser, climb, sees, and_then}
+-- What stands one construct deeper.
+use Rattle.std.proofs.Common.{◌≡◌, ◌-◌, ◌<◌, ℕ, zero, suc, List, refl, arith}
+use Rattle.asm_grammar.specs.Parser.{mapped}
 use Rattle.asm_syntax.specs.declared.token.Token.{Token}
-use Rattle.asm_syntax.specs.Grammar.{any, one_more}
-use Rattle.asm_parse_theory.specs.Reading.{inside, rule}
+use Rattle.asm_syntax.specs.Forms.{is_open}
+use Rattle.asm_syntax.specs.Terms as g
+use Rattle.asm_syntax.specs.Terms.{terms_of}
+use Rattle.asm_parse_theory.specs.Forms.{listed}
+use Rattle.asm_parse_theory.specs.Domains.{domain}
+use Rattle.asm_parse_theory.specs.Domains as d
+use Rattle.asm_parse_theory.specs.Terms as t
+use Rattle.asm_parse_theory.specs.Rules as r
 
-module _ {V : Type 0} (test : Token → Bool) (p : Parser Token V) where
-  -- a step at a token that passes the test
-  step : (n : ℕ) (found : List V) (ts rest : List Token) (v : V) → sees test ts ≡ true → p ts ≡ Took v rest
-      → climb any one_more test p (suc n) found ts ≡ climb any one_more test p n (found ++ v ∷ []) rest
-  step n found ts rest v seen read =
-      ap (λ b. cond b (and_then (p ts) (λ o. climb any one_more test p n (one_more found o))) (Took found ts)) seen
-      ∙ ap (λ r. and_then r (λ o. climb any one_more test p n (one_more found o))) read
+pub rule_deeper : (n : ℕ) (ts : List Token) → 0 < n → r.inside n ts ≡ r.rule (n - 1) ts
+unfolding r.inside r.rule
+rule_deeper zero ts h = absurd (omega arith)
+rule_deeper (suc n) ts h = let same : suc n - 1 ≡ n = omega arith in rw same refl
 
-  -- what the steps that are left give stays the same in a turn that reads one more value
-  pub turn_keeps : (start : Reply Token (List V)) (turns turn : ℕ) (found more : List V) (ts rest : List Token) (v : V) → turn < turns
-      → start ≡ climb any one_more test p (turns - turn) found ts → sees test ts ≡ true → p ts ≡ Took v rest → more ≡ found ++ v ∷ []
-      → start ≡ climb any one_more test p (turns - (turn + 1)) more rest
-  turn_keeps start turns turn found more ts rest v h e seen read pushed =
-      let left : turns - turn ≡ suc (turns - (turn + 1)) = omega arith in
-      e ∙ ap (λ n. climb any one_more test p n found ts) left ∙ step (turns - (turn + 1)) found ts rest v seen read
-      ∙ ap (λ vs. climb any one_more test p (turns - (turn + 1)) vs rest) (sym pushed)
+pub term_deeper : (n : ℕ) (ts : List Token) → 0 < n → (t.inside n).line g.term ts ≡ t.term (n - 1) ts
+unfolding t.inside t.term t.line
+term_deeper zero ts h = absurd (omega arith)
+term_deeper (suc n) ts h = let same : suc n - 1 ≡ n = omega arith in rw same refl
 
-pub inside_deeper : (n : ℕ) (ts : List Token) → 0 < n → inside n ts ≡ rule (n - 1) ts
-unfolding inside rule
-inside_deeper zero ts h = absurd (omega arith)
-inside_deeper (suc n) ts h = let same : suc n - 1 ≡ n = omega arith in rw same refl
+pub arguments_deeper : (n : ℕ) (ts : List Token) → 0 < n → t.arguments (t.inside n) ts ≡ mapped terms_of (listed (t.term (n - 1))) ts
+unfolding t.inside t.term t.line
+arguments_deeper zero ts h = absurd (omega arith)
+arguments_deeper (suc n) ts h = let same : suc n - 1 ≡ n = omega arith in rw same refl
+
+pub ranges_deeper : (n : ℕ) (ts : List Token) → 0 < n → (t.inside n).ranges ts ≡ d.ranges (domain (n - 1)) ts
+unfolding t.inside
+ranges_deeper zero ts h = absurd (omega arith)
+ranges_deeper (suc n) ts h = let same : suc n - 1 ≡ n = omega arith in rw same refl
+
+pub binds_deeper : (n : ℕ) (ts : List Token) → 0 < n → (t.inside n).binds ts ≡ t.binds (is_open (n - 1)) (t.inside (n - 1)) ts
+unfolding t.inside
+binds_deeper zero ts h = absurd (omega arith)
+binds_deeper (suc n) ts h = let same : suc n - 1 ≡ n = omega arith in rw same refl

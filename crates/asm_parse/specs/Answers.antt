@@ -1,58 +1,56 @@
 -- What a parse of a text answers.
-use Rattle.std.specs.Prelude.{◌≡◌, ℕ, List, Result, Ok, Err, ⊤}
-use Rattle.asm_grammar.specs.Language.{Language}
-use Rattle.asm_grammar.specs.Refusals.{unlimited, IsSyntax, IsTooDeep}
+use Rattle.std.specs.Prelude.{◌≡◌, ℕ, ◌≤◌, List, Result, Ok, Err, ⊤, length}
 use Rattle.asm_syntax.specs.declared.token.Token.{Token}
+use Rattle.asm_syntax.specs.declared.tree.TermTree.{TermTree}
 use Rattle.asm_syntax.specs.declared.tree.ModelTree.{ModelTree}
-use Rattle.asm_syntax.specs.Grammar.{model, model_within}
-use Rattle.asm_syntax.specs.Texts.{IsModel}
-use Rattle.asm_lex.specs.Answers.{AreTokens, IsFirst}
+use Rattle.asm_syntax.specs.Refusals as refusals
+use Rattle.asm_syntax.specs.Texts.{most_bytes, IsModel, IsTerm, IsRefusedModel, IsRefusedTerm}
+use Rattle.asm_lex.specs.Answers.{IsFirst}
 use Rattle.asm_parse.specs.declared.refusal.ParseRefusal.{ParseRefusal}
-use Rattle.asm_parse.specs.declared.refusal.ParseRefusal.TheVariants.{Lex, Syntax, TooDeep, NoMemory}
+use Rattle.asm_parse.specs.declared.refusal.ParseRefusal.TheVariants.{Lex, Syntax, Unsupported, TooDeep, NoMemory}
 
--- ---- of a list of tokens
+-- ---- of a model's text
 
--- models with any number of constructs open at once
-abbrev pub unlimited_model : Language Token ModelTree
-unlimited_model = unlimited model_within
+-- This is the first refusal of the text, and its place: the lexer's, or else that of its tokens.
+abbrev pub IsModelCause : List ℕ → ParseRefusal → Type 0
+IsModelCause text (Lex why) = (tokens : List Token) × IsFirst text tokens why
+IsModelCause text (Syntax at) = IsRefusedModel text refusals.Syntax at
+IsModelCause text (Unsupported word at) = IsRefusedModel text (refusals.Unsupported word) at
+IsModelCause text (TooDeep at) = IsRefusedModel text refusals.TooDeep at
+IsModelCause text NoMemory = ⊥
 
--- it is refused where `rest` begins
-abbrev pub IsRefusedAt : List Token → ParseRefusal → List Token → Type 0
-IsRefusedAt tokens Syntax rest = IsSyntax model unlimited_model tokens rest
-IsRefusedAt tokens TooDeep rest = IsTooDeep model unlimited_model tokens rest
-IsRefusedAt tokens (Lex why) rest = ⊥
-IsRefusedAt tokens NoMemory rest = ⊥
+-- ---- of a term's text
 
--- it spells the tree, or is refused, unless memory ran out
-abbrev pub AnswersTokens : List Token → Result ModelTree ParseRefusal → Type 0
-AnswersTokens tokens (Ok tree) = model.Spells tree tokens
-AnswersTokens tokens (Err NoMemory) = ⊤
-AnswersTokens tokens (Err why) = (rest : List Token) × IsRefusedAt tokens why rest
+abbrev pub IsTermCause : List ℕ → ParseRefusal → Type 0
+IsTermCause text (Lex why) = (tokens : List Token) × IsFirst text tokens why
+IsTermCause text (Syntax at) = IsRefusedTerm text refusals.Syntax at
+IsTermCause text (Unsupported word at) = IsRefusedTerm text (refusals.Unsupported word) at
+IsTermCause text (TooDeep at) = IsRefusedTerm text refusals.TooDeep at
+IsTermCause text NoMemory = ⊥
 
--- ---- of a text
+-- ---- of any text
 
 -- the tree was read, unless memory ran out
-abbrev pub IsRead : ModelTree → Result ModelTree ParseRefusal → Type 0
+abbrev pub IsRead : {Tree : Type 0} → Tree → Result Tree ParseRefusal → Type 0
 IsRead tree (Ok found) = found ≡ tree
-IsRead tree (Err (Lex why)) = ⊥
-IsRead tree (Err Syntax) = ⊥
-IsRead tree (Err TooDeep) = ⊥
 IsRead tree (Err NoMemory) = ⊤
-
--- no tree is this text's, unless memory ran out
-abbrev pub IsRefused : List ℕ → ParseRefusal → Type 0
-IsRefused text NoMemory = ⊤
-IsRefused text (Lex why) = (tree : ModelTree) → IsModel text tree → ⊥
-IsRefused text Syntax = (tree : ModelTree) → IsModel text tree → ⊥
-IsRefused text TooDeep = (tree : ModelTree) → IsModel text tree → ⊥
-
--- This is the first refusal of the text: the lexer's, or else that of its tokens.
-abbrev pub IsCause : List ℕ → ParseRefusal → Type 0
-IsCause text NoMemory = ⊥
-IsCause text (Lex why) = (tokens : List Token) × IsFirst text tokens why
-IsCause text why = (tokens : List Token) × AreTokens text tokens × ((rest : List Token) × IsRefusedAt tokens why rest)
+IsRead tree (Err (Lex why)) = ⊥
+IsRead tree (Err (Syntax at)) = ⊥
+IsRead tree (Err (Unsupported word at)) = ⊥
+IsRead tree (Err (TooDeep at)) = ⊥
 
 -- the refusal was answered, unless memory ran out
-abbrev pub IsTold : ParseRefusal → Result ModelTree ParseRefusal → Type 0
+abbrev pub IsTold : {Tree : Type 0} → ParseRefusal → Result Tree ParseRefusal → Type 0
 IsTold why (Err NoMemory) = ⊤
 IsTold why result = result ≡ Err why
+
+-- the place stands in the text, or at its end
+abbrev pub IsPlaced : List ℕ → ℕ → Type 0
+IsPlaced text at = (at ≤ length text) × (length text ≤ most_bytes)
+
+abbrev pub StandsIn : List ℕ → ParseRefusal → Type 0
+StandsIn text (Lex why) = ⊤
+StandsIn text (Syntax at) = IsPlaced text at
+StandsIn text (Unsupported word at) = IsPlaced text at
+StandsIn text (TooDeep at) = IsPlaced text at
+StandsIn text NoMemory = ⊤

@@ -4,9 +4,9 @@ use Rattle.std.specs.declared.alloc.Global.{Global}
 use denote.Ref.{MutBor}
 use Rattle.asm_syntax.specs.declared.token.Token.{Token}
 use Rattle.asm_syntax.specs.declared.tree.RuleTree.{RuleTree}
-use Rattle.asm_parse_theory.specs.Reading.{rule}
-use Rattle.asm_parse.specs.declared.refusal.GrammarRefusal.{GrammarRefusal}
-use Rattle.asm_parse.specs.Reads.{Reads}
+use Rattle.asm_parse_theory.specs.Rules.{rule}
+use Rattle.asm_cursor.specs.declared.refusal.GrammarRefusal.{GrammarRefusal}
+use Rattle.asm_cursor.specs.Reads.{Reads}
 
 -- It reads a rule where fewer constructs than `depth` may be open.
 pub record Nests (depth : ℕ) (pre : Global → MutBor (List Token) → ℕ → Type 0)

@@ -1,52 +1,136 @@
 //! Texts as trees.
-ghost use Rattle.std.specs.Prelude.{◌≡◌, ◌≢◌, ℕ, List, IfOk, IfErr};
+ghost use Rattle.std.specs.Prelude.{◌≡◌, ◌≢◌, ℕ, List, None, IfOk, IfErr};
 ghost use Rattle.asm_syntax.specs.declared.tree.ModelTree.{ModelTree as Tree};
-ghost use Rattle.asm_syntax.specs.Texts.{IsModel};
+ghost use Rattle.asm_syntax.specs.declared.tree.TermTree.{TermTree as Term};
+ghost use Rattle.asm_syntax.specs.Texts.{IsModel, IsTerm};
+ghost use Rattle.asm_parse_theory.specs.Models as reading;
 ghost use Rattle.asm_parse.specs.declared.refusal.ParseRefusal.{ParseRefusal as Refusal};
-ghost use Rattle.asm_parse.specs.Answers.{AnswersTokens, IsRead, IsRefused, IsCause, IsTold};
+ghost use Rattle.asm_parse.specs.Answers.{IsRead, IsModelCause, IsTermCause, IsTold, StandsIn};
+ghost use Rattle.asm_parse.specs.Tokens.{AnswersModel, AnswersTerm};
 
-use crate::models::model;
-use crate::refusal::ParseRefusal;
-use crate::tokens::Tokens;
+use crate::foreign::first_foreign;
+use crate::models::model_tree;
+use crate::refusal::{ParseRefusal, refusal, syntax, unlexed, unsupported};
+use asm_cursor::Tokens;
 use asm_lex::{lex, one_reading};
-use asm_syntax::{ModelTree, Token};
+use asm_parse_terms::term;
+use asm_syntax::{ModelTree, TermTree, Token};
 use std::alloc::Global;
 
 /// The most constructs that are open at once.
 const MOST_OPEN: usize = 64;
 
-/// The tree of a whole list of tokens.
-fn whole(alloc: Global, tokens: &[Token]) -> Result<ModelTree, ParseRefusal>
-    ensures { AnswersTokens tokens.now result }
+// ---- lists of tokens
+
+/// The model of a whole list of tokens, of a text of so many bytes.
+fn whole_model(alloc: Global, tokens: &[Token], bytes: u32) -> Result<ModelTree, ParseRefusal>
+    ensures { AnswersModel bytes tokens.now result }
 {
-    let mut cursor = Tokens::new(tokens);
-    let tree = model(alloc, &mut cursor, MOST_OPEN)?;
-    if cursor.left() == 0 {
-        Ok(tree)
-    } else {
-        Err(ParseRefusal::Syntax)
+    match first_foreign(alloc, tokens) {
+        Ok(None) => known_model(alloc, tokens, bytes),
+        Ok(Some(import)) => Err(unsupported(alloc, &import, bytes)),
+        Err(_error) => Err(ParseRefusal::NoMemory),
     }
 }
 
-/// The one tree of a text, or its first refusal: that of its bytes, or else that of its tokens.
-/// Blanks and comments leave nothing in the tree.
+/// The same where each import is of the standard library.
+fn known_model(alloc: Global, tokens: &[Token], bytes: u32) -> Result<ModelTree, ParseRefusal>
+    requires known { reading.first_foreign tokens.now ≡ None }
+    ensures { AnswersModel bytes tokens.now result }
+{
+    let mut cursor = Tokens::new(tokens);
+    match model_tree(alloc, &mut cursor, MOST_OPEN) {
+        Ok(tree) => {
+            if cursor.left() == 0 {
+                Ok(tree)
+            } else {
+                Err(syntax(alloc, cursor.rest(), bytes))
+            }
+        }
+        Err(why) => Err(refusal(alloc, why, cursor.rest(), bytes)),
+    }
+}
+
+/// The term of a whole list of tokens, of a text of so many bytes.
+fn whole_term(alloc: Global, tokens: &[Token], bytes: u32) -> Result<TermTree, ParseRefusal>
+    ensures { AnswersTerm bytes tokens.now result }
+{
+    let mut cursor = Tokens::new(tokens);
+    match term(alloc, &mut cursor, MOST_OPEN) {
+        Ok(tree) => {
+            if cursor.left() > 0 {
+                Err(syntax(alloc, cursor.rest(), bytes))
+            } else {
+                Ok(tree)
+            }
+        }
+        Err(why) => Err(refusal(alloc, why, cursor.rest(), bytes)),
+    }
+}
+
+// ---- texts
+
+/// The one tree of a model's text, or its first refusal. Blanks and comments leave nothing in the
+/// tree.
 pub fn parse_model(alloc: Global, text: &str) -> Result<ModelTree, ParseRefusal>
     // what is answered is so
     ensures found { IfOk result (λ tree. IsModel text.now tree) }
-    ensures refused { IfErr result (λ why. IsRefused text.now why) }
-    ensures cause { IfErr result (λ why. why ≢ ParseRefusal.NoMemory → IsCause text.now why) }
+    ensures cause { IfErr result (λ why. why ≢ ParseRefusal.NoMemory → IsModelCause text.now why) }
 
     // what is so is answered, unless memory runs out
     ensures only { (tree : Tree) → IsModel text.now tree → IsRead tree result }
-    ensures first { (why : Refusal) → IsCause text.now why → IsTold why result }
+    ensures first { (why : Refusal) → IsModelCause text.now why → IsTold why result }
+
+    // where it stands
+    ensures placed { IfErr result (StandsIn text.now) }
 {
-    let tokens = lex(alloc, text)?;
-    whole(alloc, tokens.as_slice())
+    match lex(alloc, text) {
+        Ok(tokens) => whole_model(alloc, tokens.as_slice(), text.len() as u32),
+        Err(why) => Err(unlexed(why)),
+    }
 }
 
-/// A text has one tree at most.
+/// The one tree of a term's text, or its first refusal.
+pub fn parse_term(alloc: Global, text: &str) -> Result<TermTree, ParseRefusal>
+    // what is answered is so
+    ensures found { IfOk result (λ tree. IsTerm text.now tree) }
+    ensures cause { IfErr result (λ why. why ≢ ParseRefusal.NoMemory → IsTermCause text.now why) }
+
+    // what is so is answered, unless memory runs out
+    ensures only { (tree : Term) → IsTerm text.now tree → IsRead tree result }
+    ensures first { (why : Refusal) → IsTermCause text.now why → IsTold why result }
+
+    // where it stands
+    ensures placed { IfErr result (StandsIn text.now) }
+{
+    match lex(alloc, text) {
+        Ok(tokens) => whole_term(alloc, tokens.as_slice(), text.len() as u32),
+        Err(why) => Err(unlexed(why)),
+    }
+}
+
+// ---- laws
+
+/// A text has one tree at most as a model.
 pub fn one_tree()
     ensures { (text : List ℕ) (t u : Tree) → IsModel text t → IsModel text u → t ≡ u }
+{
+    one_reading();
+}
+
+/// A text has one tree at most as a term.
+pub fn one_term()
+    ensures { (text : List ℕ) (t u : Term) → IsTerm text t → IsTerm text u → t ≡ u }
+{
+    one_reading();
+}
+
+/// A text has one first refusal at most, at one place, and none where it has a tree.
+pub fn one_refusal()
+    ensures model { (text : List ℕ) (why other : Refusal) → IsModelCause text why → IsModelCause text other → why ≡ other }
+    ensures term { (text : List ℕ) (why other : Refusal) → IsTermCause text why → IsTermCause text other → why ≡ other }
+    ensures no_model { (text : List ℕ) (tree : Tree) (why : Refusal) → IsModel text tree → IsModelCause text why → ⊥ }
+    ensures no_term { (text : List ℕ) (tree : Term) (why : Refusal) → IsTerm text tree → IsTermCause text why → ⊥ }
 {
     one_reading();
 }

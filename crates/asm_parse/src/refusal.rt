@@ -1,82 +1,116 @@
 //! Why a text has no tree.
-use asm_lex::LexRefusal;
-use std::alloc::AllocError;
+ghost use Rattle.std.specs.Prelude.{◌≡◌};
+ghost use Rattle.asm_syntax.specs.Marks.{last_of, text_of};
+ghost use Rattle.asm_syntax.specs.Refusals as refusals;
+ghost use Rattle.asm_syntax.specs.Refusals.{place_of, syntax_refusal};
+ghost use Rattle.asm_parse.specs.Refusals.{Tells, TellsToken, TellsWhy, unlexed};
 
-/// Why a text has no tree. A refusal of the lexer wins over those of the grammar.
-#[derive(Clone, Copy, Debug, PartialEq, Eq)]
+use crate::foreign::{Foreign, last};
+use crate::words::text;
+use asm_cursor::GrammarRefusal;
+use asm_lex::LexRefusal;
+use asm_syntax::{Name, Token, TokenKind};
+use std::alloc::Global;
+use thiserror::Error;
+
+/// Why a text has no tree: its first refusal. A refusal of the lexer wins over those of the grammar.
+/// Places are byte offsets from the text's start.
+#[derive(Debug, Drop, Error)]
 pub enum ParseRefusal {
     /// The text isn't read to its end as tokens.
+    #[error("{0}")]
     Lex(LexRefusal),
     /// A token, or the text's end, stands where no tree has it.
-    Syntax,
-    /// More than 64 constructs are open at once.
-    TooDeep,
+    #[error("no tree has what stands at byte {0}")]
+    Syntax(u32),
+    /// A word that the language leaves out stands where no tree has it, or an import isn't of the
+    /// standard library: the word, or the last part of the import.
+    #[error("the language has no {word}, which stands at byte {1}", word = .0.as_str())]
+    Unsupported(Name, u32),
+    /// More than 64 constructs are open at once, or an operator stands behind a term that is higher than 63.
+    #[error("more than 64 constructs are open at byte {0}")]
+    TooDeep(u32),
     /// Memory ran out. It says nothing about the text.
+    #[error("memory ran out")]
     NoMemory,
 }
 
-impl From<AllocError> for ParseRefusal {
-    ghost use Rattle.std.specs.Prelude.{◌≡◌};
-    ghost use Rattle.asm_parse.specs.declared.refusal.ParseRefusal.TheVariants.{NoMemory};
-
-    ghost from_gives = { λ _ e. e ≡ NoMemory };
-
-    fn from(_error: AllocError) -> ParseRefusal {
-        ParseRefusal::NoMemory
+/// The refusal of a text that the lexer refuses.
+pub(crate) fn unlexed(why: LexRefusal) -> ParseRefusal
+    ensures { result ≡ unlexed why }
+{
+    match why {
+        LexRefusal::NoMemory => ParseRefusal::NoMemory,
+        LexRefusal::TextTooLong(_)
+        | LexRefusal::BadByte(_)
+        | LexRefusal::OpenComment(_)
+        | LexRefusal::OpenString(_)
+        | LexRefusal::NumberTooLarge(_) => ParseRefusal::Lex(why),
     }
 }
 
-/// Why the tokens that are left aren't read.
-#[derive(Clone, Copy, Debug, PartialEq, Eq)]
-pub(crate) enum GrammarRefusal {
-    /// The next token, or the end, stands where no tree has it.
-    Syntax,
-    /// The next token opens one construct too many.
-    TooDeep,
-    /// Memory ran out.
-    NoMemory,
-}
-
-impl From<LexRefusal> for ParseRefusal {
-    ghost use Rattle.std.specs.Prelude.{◌≡◌};
-    ghost use Rattle.asm_parse.specs.Refusals.{unlexed};
-
-    ghost from_gives = { λ why e. e ≡ unlexed why };
-
-    fn from(why: LexRefusal) -> ParseRefusal {
-        match why {
-            LexRefusal::NoMemory => ParseRefusal::NoMemory,
-            LexRefusal::TextTooLong(_)
-            | LexRefusal::BadByte(_)
-            | LexRefusal::OpenComment(_)
-            | LexRefusal::OpenString(_)
-            | LexRefusal::NumberTooLarge(_) => ParseRefusal::Lex(why),
-        }
+/// Where these tokens begin, in a text of so many bytes.
+fn place(rest: &[Token], bytes: u32) -> u32
+    ensures { result ≡ place_of bytes rest.now }
+{
+    match rest.first() {
+        Some(token) => token.span.start,
+        None => bytes,
     }
 }
 
-impl From<GrammarRefusal> for ParseRefusal {
-    ghost use Rattle.std.specs.Prelude.{◌≡◌};
-    ghost use Rattle.asm_parse.specs.Refusals.{unread};
-
-    ghost from_gives = { λ why e. e ≡ unread why };
-
-    fn from(why: GrammarRefusal) -> ParseRefusal {
-        match why {
-            GrammarRefusal::Syntax => ParseRefusal::Syntax,
-            GrammarRefusal::TooDeep => ParseRefusal::TooDeep,
-            GrammarRefusal::NoMemory => ParseRefusal::NoMemory,
-        }
+/// The refusal of a text of so many bytes whose tokens aren't read from here on.
+pub(crate) fn refusal(
+    alloc: Global,
+    why: GrammarRefusal,
+    rest: &[Token],
+    bytes: u32,
+) -> ParseRefusal
+    ensures { TellsWhy bytes why rest.now result }
+{
+    match why {
+        GrammarRefusal::Syntax => syntax(alloc, rest, bytes),
+        GrammarRefusal::TooDeep => ParseRefusal::TooDeep(place(rest, bytes)),
+        GrammarRefusal::NoMemory => ParseRefusal::NoMemory,
     }
 }
 
-impl From<AllocError> for GrammarRefusal {
-    ghost use Rattle.std.specs.Prelude.{◌≡◌};
-    ghost use Rattle.asm_parse.specs.declared.refusal.GrammarRefusal.TheVariants.{NoMemory};
+/// The refusal of a token that no tree has there, or of the end.
+pub(crate) fn syntax(alloc: Global, rest: &[Token], bytes: u32) -> ParseRefusal
+    ensures { Tells bytes (syntax_refusal rest.now) rest.now result }
+{
+    match rest.first() {
+        Some(token) => at_token(alloc, token),
+        None => ParseRefusal::Syntax(bytes),
+    }
+}
 
-    ghost from_gives = { λ _ e. e ≡ NoMemory };
+/// The refusal of a token that no tree has there.
+fn at_token(alloc: Global, token: &Token) -> ParseRefusal
+    ensures { TellsToken token.now result }
+{
+    let at = token.span.start;
+    match &token.kind {
+        TokenKind::Refused(word) => match word.copy(alloc) {
+            Ok(word) => ParseRefusal::Unsupported(word, at),
+            Err(_error) => ParseRefusal::NoMemory,
+        },
+        TokenKind::Id(_)
+        | TokenKind::Var(_)
+        | TokenKind::Number(_)
+        | TokenKind::Chars(_)
+        | TokenKind::Keyword(_)
+        | TokenKind::Symbol(_) => ParseRefusal::Syntax(at),
+    }
+}
 
-    fn from(_error: AllocError) -> GrammarRefusal {
-        GrammarRefusal::NoMemory
+/// The refusal of an import that isn't of the standard library.
+pub(crate) fn unsupported(alloc: Global, import: &Foreign<'_>, bytes: u32) -> ParseRefusal
+    ensures { Tells bytes (refusals.Unsupported (text_of (last_of import.now.first import.now.others))) import.now.rest.now result }
+{
+    let at = place(import.rest, bytes);
+    match text(alloc, last(&import.first, import.others.as_slice())) {
+        Ok(name) => ParseRefusal::Unsupported(name, at),
+        Err(_error) => ParseRefusal::NoMemory,
     }
 }

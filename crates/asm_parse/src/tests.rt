@@ -1,99 +1,112 @@
-//! Texts with a tree, and texts without one.
-use crate::{ParseRefusal, parse_model};
-use asm_syntax::{DeclTree, DomainTree, Name, RuleTree, TermTree};
+//! Texts that are read, and such that are refused, with their places.
+use crate::{ParseRefusal, parse_model, parse_term};
+use asm_syntax::{Name, Span};
 use std::alloc::{AllocError, Global};
 use std::test::Fail;
 
-const HEAD: &str = "asm T signature: controlled n: Integer definitions: main rule r_Main = ";
-
-/// What is answered to this text.
-fn answer_to(alloc: Global, text: &str) -> Result<&'static str, AllocError> {
-    match parse_model(alloc, text) {
-        Ok(_) => Ok("a tree"),
-        Err(ParseRefusal::Lex(_)) => Ok("no tokens"),
-        Err(ParseRefusal::Syntax) => Ok("syntax"),
-        Err(ParseRefusal::TooDeep) => Ok("too deep"),
-        Err(ParseRefusal::NoMemory) => Err(AllocError),
-    }
-}
-
-/// What is answered to a head with this main rule.
-fn answer(alloc: Global, head: &str, rule: &str) -> Result<&'static str, AllocError> {
-    let mut text = Name::from_str(alloc, head)?;
-    text.push_str(rule)?;
-    answer_to(alloc, text.as_str())
-}
-
-/// So many `par` in one another.
-fn nested(alloc: Global, depth: u8) -> Result<Name, AllocError> {
-    let mut rule = Name::new(alloc);
-    for _ in 0..depth {
-        rule.push_str("par ")?;
-    }
-    rule.push_str("skip")?;
-    for _ in 0..depth {
-        rule.push_str(" endpar")?;
-    }
-    Ok(rule)
+/// Where the tree of a model stands.
+fn model_span(alloc: Global, text: &str) -> Option<Span> {
+    parse_model(alloc, text).ok().map(|tree| tree.span)
 }
 
 #[test]
-fn a_main_rule_is_taken_or_refused(rt: HostRuntime) -> Result<(), Fail> {
-    for (rule, want) in [
-        ("skip", "a tree"),
-        ("n := 1", "a tree"),
-        ("n := /* a comment */ true // and one more", "a tree"),
-        ("par skip n := m endpar", "a tree"),
-        ("if n then skip else n := 0 endif", "a tree"),
-        ("if true then par skip endpar endif", "a tree"),
-        ("", "syntax"),
-        ("par endpar", "syntax"),
-        ("par skip", "syntax"),
-        ("if n then skip else endif", "syntax"),
-        ("if n then skip", "syntax"),
-        ("n := skip", "syntax"),
-        ("n := 1 n := 2", "syntax"),
-        ("skip endpar", "syntax"),
-        ("while := 1", "syntax"),
-        ("n := 1 + 1", "syntax"),
-        ("n := 1 /* open", "no tokens"),
-        ("skip skip ?", "no tokens"),
+fn a_model_stands_from_its_first_word_to_its_last(rt: HostRuntime) -> Result<(), Fail> {
+    let text = "/* a lamp */ asm L signature: definitions: main rule r_M = skip // off";
+    let span = model_span(rt.alloc(), text);
+    assert_eq!(rt; span, Some(Span { start: 13, end: 63 }));
+    Ok(())
+}
+
+/// The name of what is told, and its place.
+fn told(why: &ParseRefusal) -> (&'static str, Option<u32>) {
+    match why {
+        ParseRefusal::Lex(_) => ("lexer", None),
+        ParseRefusal::Syntax(at) => ("syntax", Some(*at)),
+        ParseRefusal::Unsupported(_, at) => ("unsupported", Some(*at)),
+        ParseRefusal::TooDeep(at) => ("too deep", Some(*at)),
+        ParseRefusal::NoMemory => ("no memory", None),
+    }
+}
+
+fn model_refusal(alloc: Global, text: &str) -> (&'static str, Option<u32>) {
+    match parse_model(alloc, text) {
+        Ok(_) => ("read", None),
+        Err(why) => told(&why),
+    }
+}
+
+#[test]
+fn the_first_refusal_is_told_with_its_place(rt: HostRuntime) -> Result<(), Fail> {
+    for (text, want) in [
+        ("", ("syntax", Some(0))),
+        ("asm", ("syntax", Some(3))),
+        (
+            "asm L signature: definitions: main rule r = par skip",
+            ("syntax", Some(52)),
+        ),
+        (
+            "asm L signature: definitions: main rule r = skip skip",
+            ("syntax", Some(49)),
+        ),
+        (
+            "asm L import a/StandardLibrary signature: ~",
+            ("lexer", None),
+        ),
+        (
+            "asm L import a/Agents signature:",
+            ("unsupported", Some(13)),
+        ),
+        ("asm L import signature: import b", ("syntax", Some(13))),
+        (
+            "asm L signature: definitions: main rule r = while",
+            ("unsupported", Some(44)),
+        ),
+        (
+            "asm L signature: definitions: r = while",
+            ("syntax", Some(30)),
+        ),
     ] {
-        assert_eq!(rt; answer(rt.alloc(), HEAD, rule)?, want, "{rule}");
+        assert_eq!(rt; model_refusal(rt.alloc(), text), want, "{text}");
     }
     Ok(())
+}
+
+/// So many of a word, then `1`, and so many of another word.
+fn nested(alloc: Global, before: &str, times: u32, behind: &str) -> Result<Name, AllocError> {
+    let mut text = Name::new(alloc);
+    for _ in 0..times {
+        text.push_str(before)?;
+    }
+    text.push_str("1")?;
+    for _ in 0..times {
+        text.push_str(behind)?;
+    }
+    Ok(text)
+}
+
+fn term_refusal(alloc: Global, text: &str) -> (&'static str, Option<u32>) {
+    match parse_term(alloc, text) {
+        Ok(_) => ("read", None),
+        Err(why) => told(&why),
+    }
 }
 
 #[test]
 fn at_most_64_constructs_are_open(rt: HostRuntime) -> Result<(), Fail> {
-    for (depth, want) in [(1, "a tree"), (64, "a tree"), (65, "too deep")] {
-        let rule = nested(rt.alloc(), depth)?;
+    for (before, times, behind, want) in [
+        ("(", 64, ")", ("read", None)),
+        ("(", 65, ")", ("too deep", Some(64))),
+        ("1+", 64, "", ("read", None)),
+        ("1+", 65, "", ("too deep", Some(129))),
+        ("1 implies ", 64, "", ("read", None)),
+        ("1 implies ", 65, "", ("too deep", Some(642))),
+    ] {
+        let text = nested(rt.alloc(), before, times, behind)?;
         assert_eq!(rt;
-            answer(rt.alloc(), HEAD, rule.as_str())?,
+            term_refusal(rt.alloc(), text.as_str()),
             want,
-            "{depth} constructs"
+            "{times} of {before}"
         );
     }
-    Ok(())
-}
-
-/// Whether the tree of a text is that of `n := 1` over one declaration.
-fn sets_n(alloc: Global, text: &str) -> Result<bool, ParseRefusal> {
-    let tree = parse_model(alloc, text)?;
-    let declared = match tree.decls.as_slice() {
-        [DeclTree::Controlled(_, codomain)] => *codomain == DomainTree::Integer,
-        _ => false,
-    };
-    let set = match &tree.main {
-        RuleTree::Update(name, TermTree::Number(_)) => name.span.start == 71,
-        _ => false,
-    };
-    Ok(declared && set)
-}
-
-#[test]
-fn a_model_is_read(rt: HostRuntime) -> Result<(), Fail> {
-    let text = "asm T signature: controlled n: Integer definitions: main rule r_Main = n := 1";
-    assert!(rt; sets_n(rt.alloc(), text) == Ok(true));
     Ok(())
 }

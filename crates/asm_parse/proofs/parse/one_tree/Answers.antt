@@ -1,5 +1,5 @@
-use Rattle.asm_parse.proofs.Answers.{one_tree_of}
+use Rattle.asm_parse.proofs.Once.{one_model_of}
 use Rattle.asm_parse.proofs.parse.one_tree.Goals as goal
 
 pub returns : goal.returns
-returns c = one_tree_of c.one_reading.ensures
+returns c = λ text. one_model_of text (c.one_reading.ensures text)

@@ -1,14 +1,14 @@
-use Rattle.asm_parse.proofs.Answers.{only_in, refused_in, first_in}
+use Rattle.asm_parse.proofs.Texts.{model_only, model_first, model_placed}
 use Rattle.asm_parse.proofs.parse.parse_model.Goals as goal
 
-pub returns-clause-refused : goal.returns-clause-refused
-returns-clause-refused c =
-    refused_in c.args.text.now c.in_ok-tokens.tokens c.in_ok-tokens.ensures.tokens c.in_ok-tokens.ensures.only c.whole.result (rw c.as_slice.ensures at c.whole.ensures)
+pub returns-in-Ok-clause-only : goal.returns-in-Ok-clause-only
+returns-in-Ok-clause-only c =
+    model_only c.args.text.now c.in-Ok.tokens c.in-Ok.ensures.tokens c.in-Ok.ensures.only c.whole_model.result (rw c.as_slice.ensures at c.whole_model.ensures)
 
-pub returns-clause-only : goal.returns-clause-only
-returns-clause-only c =
-    only_in c.args.text.now c.in_ok-tokens.tokens c.in_ok-tokens.ensures.tokens c.in_ok-tokens.ensures.only c.whole.result (rw c.as_slice.ensures at c.whole.ensures)
+pub returns-in-Ok-clause-first : goal.returns-in-Ok-clause-first
+returns-in-Ok-clause-first c =
+    model_first c.args.text.now c.in-Ok.tokens c.in-Ok.ensures.tokens c.in-Ok.ensures.only c.in-Ok.ensures.first c.whole_model.result (rw c.as_slice.ensures at c.whole_model.ensures)
 
-pub returns-clause-first : goal.returns-clause-first
-returns-clause-first c =
-    first_in c.args.text.now c.in_ok-tokens.tokens c.in_ok-tokens.ensures.tokens c.in_ok-tokens.ensures.only c.in_ok-tokens.ensures.first c.whole.result (rw c.as_slice.ensures at c.whole.ensures)
+pub returns-in-Ok-clause-placed : goal.returns-in-Ok-clause-placed
+returns-in-Ok-clause-placed c =
+    model_placed c.args.text.now c.in-Ok.tokens c.in-Ok.ensures.tokens c.in-Ok.ensures.only c.in-Ok.ensures.spans c.whole_model.result (rw c.as_slice.ensures at c.whole_model.ensures)

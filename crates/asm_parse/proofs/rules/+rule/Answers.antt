@@ -1,4 +1,4 @@
-use Rattle.asm_parse_theory.specs.Reading.{rule}
+use Rattle.asm_parse_theory.specs.Rules.{rule}
 use Rattle.asm_parse.proofs.rules.+rule.Goals as goal
 
 pub returns : goal.returns

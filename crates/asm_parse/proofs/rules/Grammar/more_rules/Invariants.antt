@@ -1,7 +1,8 @@
 use Rattle.std.proofs.Common.{◌≡◌, ◌-◌, length}
 use Rattle.asm_grammar.specs.Parser.{climb}
-use Rattle.asm_syntax.specs.Grammar.{any, one_more}
-use Rattle.asm_parse_theory.specs.Reading.{inside, starts_rule}
+use Rattle.asm_syntax.specs.Forms.{any, one_more}
+use Rattle.asm_parse_theory.specs.Firsts.{starts_rule}
+use Rattle.asm_parse_theory.specs.Rules.{inside}
 use Rattle.asm_parse.proofs.rules.Grammar.more_rules.Given as goal
 
 abbrev pub invariant-loop-turn : goal.invariant-loop-turn

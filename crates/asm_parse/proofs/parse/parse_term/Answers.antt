@@ -1,0 +1,14 @@
+use Rattle.asm_parse.proofs.Texts.{term_only, term_first, term_placed}
+use Rattle.asm_parse.proofs.parse.parse_term.Goals as goal
+
+pub returns-in-Ok-clause-only : goal.returns-in-Ok-clause-only
+returns-in-Ok-clause-only c =
+    term_only c.args.text.now c.in-Ok.tokens c.in-Ok.ensures.tokens c.in-Ok.ensures.only c.whole_term.result (rw c.as_slice.ensures at c.whole_term.ensures)
+
+pub returns-in-Ok-clause-first : goal.returns-in-Ok-clause-first
+returns-in-Ok-clause-first c =
+    term_first c.args.text.now c.in-Ok.tokens c.in-Ok.ensures.tokens c.in-Ok.ensures.only c.in-Ok.ensures.first c.whole_term.result (rw c.as_slice.ensures at c.whole_term.ensures)
+
+pub returns-in-Ok-clause-placed : goal.returns-in-Ok-clause-placed
+returns-in-Ok-clause-placed c =
+    term_placed c.args.text.now c.in-Ok.tokens c.in-Ok.ensures.tokens c.in-Ok.ensures.only c.in-Ok.ensures.spans c.whole_term.result (rw c.as_slice.ensures at c.whole_term.ensures)
