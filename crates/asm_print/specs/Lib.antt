@@ -1,0 +1,5 @@
+pub mod Lines
+pub mod Parts
+pub mod RuleParts
+pub mod LineParts
+pub mod Again
