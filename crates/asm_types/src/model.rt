@@ -1,45 +1,36 @@
 //! Trees as programs.
-ghost use Rattle.std.specs.Prelude.{◌≡◌, map, IfOk};
+ghost use Rattle.std.specs.Prelude.{◌≡◌, ◌≤◌, nat_le, length, if◌then◌else◌, None, OnOk};
 ghost use Rattle.asm_program.specs.Typed as spec;
 ghost use Rattle.asm_program.specs.Typed.{program_of};
 ghost use Rattle.asm_types.specs.Checks.{Checks};
 
-use crate::decl::{declared_domain, declared_name};
+use crate::decl::functions_of;
 use crate::refusal::TypeRefusal;
 use crate::rule::rule_of;
 use crate::scope::Scope;
 use crate::token::name_of;
-use asm_program::{FunctionInfo, Program};
-use asm_syntax::{DeclTree, DomainTree, ModelTree};
-use asm_value::{Domain, List, Text};
-use std::alloc::{AllocError, Global};
+use asm_program::{FunctionInfo, Program, Rule};
+use asm_syntax::ModelTree;
+use asm_value::Text;
+use std::alloc::Global;
 
-fn domain_of(domain: DomainTree) -> Domain
-    ensures { result ≡ spec.domain_of domain }
+/// Whether the model has no definitions and no initial state.
+fn is_bare(tree: &ModelTree) -> bool
+    ensures { result ≡ spec.is_bare tree.now.defs tree.now.init }
 {
-    match domain {
-        DomainTree::Boolean => Domain::Truth,
-        DomainTree::Integer => Domain::Int,
+    match &tree.init {
+        None => tree.defs.as_slice().is_empty(),
+        Some(_) => false,
     }
 }
 
-fn function_of(alloc: Global, decl: &DeclTree) -> Result<FunctionInfo, AllocError>
-    ensures { IfOk result (λ function. function ≡ spec.function_of decl.now) }
+/// The main rule. `Untyped` where it is none over these functions, or they are more than 256.
+fn main_of(alloc: Global, tree: &ModelTree, functions: &[FunctionInfo]) -> Result<Rule, TypeRefusal>
+    ensures main { Checks result (if nat_le (length functions.now) 256 then spec.main_of tree.now functions.now else None) }
+    ensures few { OnOk result (length functions.now ≤ 256) }
 {
-    Ok(FunctionInfo {
-        name: Text::from_str(alloc, declared_name(decl))?,
-        result: domain_of(declared_domain(decl)),
-    })
-}
-
-fn functions_of(alloc: Global, decls: &[DeclTree]) -> Result<List<FunctionInfo>, AllocError>
-    ensures { IfOk result (λ functions. functions ≡ map spec.function_of decls.now) }
-{
-    let mut functions = List::new(alloc);
-    for decl in decls {
-        functions.push(function_of(alloc, decl)?)?;
-    }
-    Ok(functions)
+    let scope = Scope::new(alloc, tree, functions)?;
+    rule_of(alloc, &scope, &tree.rule)
 }
 
 /// The program of a model. `Untyped` where the tree is none, and then nothing says which of its
@@ -47,11 +38,14 @@ fn functions_of(alloc: Global, decls: &[DeclTree]) -> Result<List<FunctionInfo>,
 pub fn check(alloc: Global, tree: &ModelTree) -> Result<Program, TypeRefusal>
     ensures { Checks result (program_of tree.now) }
 {
-    let scope = Scope::new(alloc, tree)?;
-    let main = rule_of(alloc, &scope, &tree.main)?;
+    if !is_bare(tree) {
+        return Err(TypeRefusal::Untyped);
+    }
+    let functions = functions_of(alloc, tree.decls.as_slice())?;
+    let main = main_of(alloc, tree, functions.as_slice())?;
     Ok(Program {
         name: Text::from_str(alloc, name_of(&tree.name))?,
-        functions: functions_of(alloc, tree.decls.as_slice())?,
+        functions,
         main,
     })
 }

@@ -5,7 +5,8 @@ use std::alloc::AllocError;
 #[derive(Clone, Copy, Debug, PartialEq, Eq)]
 pub enum TypeRefusal {
     /// A name stands twice or isn't declared, more than 256 functions are declared, an update's
-    /// term hasn't its function's domain, or a guard isn't Boolean.
+    /// term hasn't its function's domain, a guard isn't Boolean, or a part of the language stands
+    /// there that isn't run.
     Untyped,
     /// Memory ran out. It says nothing about the tree.
     NoMemory,

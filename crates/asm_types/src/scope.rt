@@ -1,80 +1,106 @@
-//! The declarations of a model, to be looked up by their names.
+//! The functions of a model, to be looked up by their names.
 ghost use Rattle.std.specs.Prelude.{◌≡◌, nat_le, length, map, ◌&&◌, if◌then◌else◌, Some, None, IfOk};
 ghost use Rattle.asm_program.specs.Typed as spec;
 ghost use Rattle.asm_program.specs.Typed.{differ};
 ghost use Rattle.asm_types.specs.Checks.{Checks};
 
-use crate::decl::{declared_domain, declared_name};
 use crate::names::Names;
 use crate::refusal::TypeRefusal;
 use crate::token::name_of;
-use asm_syntax::{DeclTree, DomainTree, ModelTree};
+use asm_program::FunctionInfo;
+use asm_syntax::ModelTree;
+use asm_value::Domain;
 use std::alloc::{AllocError, Global};
 use std::marker::Model;
 
 /// As many functions as a model may declare.
 const MAX_FUNCTIONS: usize = 256;
 
-/// At most 256 declarations, by their names. No name stands twice.
+/// At most 256 functions, by their names. No name stands twice.
 #[derive(Drop)]
 pub(crate) struct Scope<'a> {
-    decls: &'a [DeclTree],
+    functions: &'a [FunctionInfo],
     names: Names,
 }
 
 impl<'a> Model for Scope<'a> {
     ghost use Rattle.std.specs.Prelude.{◌≡◌, ◌≤◌, length, map, List};
-    ghost use Rattle.asm_syntax.specs.declared.tree.DeclTree.{DeclTree};
-    ghost use Rattle.asm_program.specs.Typed.{declared_name};
+    ghost use Rattle.asm_program.specs.declared.program.FunctionInfo.{FunctionInfo};
+    ghost use Rattle.asm_program.specs.Typed.{function_name};
+    ghost use Rattle.asm_value.specs.contracts.domain.Domain as domain;
+    ghost use Rattle.std.specs.Coded.{codes};
 
-    ghost Value = { List DeclTree };
+    ghost Value = { List FunctionInfo };
 
-    ghost view = { λ s. s.decls.now };
+    ghost coded = { Prim.hlevel (codes, domain.the_row.coded) };
 
-    ghost invariant = { λ s. (s.names ≡ map declared_name s.decls.now) × (length s.decls.now ≤ 256) };
+    ghost view = { λ s. s.functions.now };
+
+    ghost invariant = { λ s. (s.names ≡ map function_name s.functions.now) × (length s.functions.now ≤ 256) };
 }
 
-/// The names of the declarations, if each stands once.
-fn names_of(alloc: Global, decls: &[DeclTree]) -> Result<Option<Names>, AllocError>
-    ensures { IfOk result (λ names. names ≡ (if differ (map spec.declared_name decls.now) then Some (map spec.declared_name decls.now) else None)) }
+/// The names of the functions, if each stands once.
+fn names_of(alloc: Global, functions: &[FunctionInfo]) -> Result<Option<Names>, AllocError>
+    ensures { IfOk result (λ names. names ≡ (if differ (map spec.function_name functions.now) then Some (map spec.function_name functions.now) else None)) }
 {
     let mut names = Names::new(alloc);
-    for decl in decls {
-        if !names.insert(alloc, declared_name(decl))? {
+    for function in functions {
+        if !names.insert(alloc, function.name.as_str())? {
             return Ok(None);
         }
     }
     Ok(Some(names))
 }
 
+#[tactic(auto, using(crate::proofs::Functions::domain_steps))]
+fn is_truth(domain: &Domain) -> bool
+    ensures { result ≡ spec.is_truth domain.now }
+{
+    match domain {
+        Domain::Truth => true,
+        Domain::Int
+        | Domain::Nat
+        | Domain::Chars
+        | Domain::Enum(_)
+        | Domain::Abstract(_)
+        | Domain::Subset(_)
+        | Domain::Prod(_)
+        | Domain::Seq(_)
+        | Domain::Power(_) => false,
+    }
+}
+
 impl<'a> Scope<'a> {
-    /// The declarations of a model. `Untyped` where more than 256 functions are declared, or a name
-    /// stands twice among theirs and the main rule's.
-    pub(crate) fn new(alloc: Global, tree: &'a ModelTree) -> Result<Scope<'a>, TypeRefusal>
-        ensures { Checks result (if nat_le (length tree.now.decls) 256 && differ (spec.names_of tree.now) then Some tree.now.decls else None) }
+    /// The functions of a model. `Untyped` where they are more than 256, or a name stands twice among
+    /// theirs and the main rule's.
+    pub(crate) fn new(
+        alloc: Global,
+        tree: &ModelTree,
+        functions: &'a [FunctionInfo],
+    ) -> Result<Scope<'a>, TypeRefusal>
+        ensures { Checks result (if nat_le (length functions.now) 256 && differ (spec.names_of tree.now functions.now) then Some functions.now else None) }
     {
-        let decls = tree.decls.as_slice();
-        if decls.len() > MAX_FUNCTIONS {
+        if functions.len() > MAX_FUNCTIONS {
             return Err(TypeRefusal::Untyped);
         }
-        match names_of(alloc, decls)? {
+        match names_of(alloc, functions)? {
             Some(names) => {
                 if names.contains(name_of(&tree.rule_name)) {
                     Err(TypeRefusal::Untyped)
                 } else {
-                    Ok(Scope { decls, names })
+                    Ok(Scope { functions, names })
                 }
             }
             None => Err(TypeRefusal::Untyped),
         }
     }
 
-    /// The number of a function, and the domain that it is declared with. Takes no memory.
-    pub(crate) fn find(&self, name: &str) -> Option<(u16, DomainTree)>
+    /// The number of a function, and whether it is Boolean. Takes no memory.
+    pub(crate) fn find(&self, name: &str) -> Option<(u16, bool)>
         ensures { result ≡ spec.find self.now name.now }
     {
         match self.names.find(name) {
-            Some(at) => Some((at as u16, declared_domain(&self.decls[at]))),
+            Some(at) => Some((at as u16, is_truth(&self.functions[at].result))),
             None => None,
         }
     }

@@ -1,6 +1,6 @@
 use Rattle.std.proofs.Common.{◌≡◌, ◌∷◌, map, drop, Some}
 use Rattle.asm_program.specs.Typed.{all_of, rule_of}
-use Rattle.asm_types.proofs.Rules.{onto}
+use Rattle.asm_types.proofs.All.{onto}
 use Rattle.asm_types.proofs.rule.+rules.Given as goal
 
 -- the parts so far, and what is left to make
