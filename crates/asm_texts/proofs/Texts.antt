@@ -1,81 +1,161 @@
--- The tree and the program of a text are what the relations say, and nothing else is.
-use Rattle.std.proofs.Common.{◌≡◌, ℕ, zero, ◌≤◌, nat_le, Bool, true, false, if◌then◌else◌, List, [], ◌∷◌, length, Option, Some, None, option_and_then, refl, ap, ◌∙◌, arith}
+-- The tree and the program of a text are what the relations say, and nothing else is; nor is anything else told.
+use Rattle.std.proofs.Common.{◌≡◌, ℕ, zero, ◌<◌, ◌≤◌, nat_le, Bool, true, false, if◌then◌else◌, List, [], ◌∷◌, length, Option, Some, None, Result, Ok, Err, refl, sym, ap, ◌∙◌, subst, arith}
 use Rattle.std.proofs.lemmas.Bool.Decides.{nat_tests}
 use Rattle.asm_grammar.specs.Parser.{Reply, Took, Refused}
 use Rattle.asm_syntax.specs.declared.token.Token.{Token}
 use Rattle.asm_syntax.specs.declared.tree.ModelTree.{ModelTree}
 use Rattle.asm_syntax.specs.Lexes.{Stop, End, At, Lexes}
-use Rattle.asm_syntax.specs.Texts.{most_bytes, IsModel}
+use Rattle.asm_syntax.specs.Models.{Import}
+use Rattle.asm_syntax.specs.Grammar.{SpellsModel}
+use Rattle.asm_syntax.specs.Refusals.{Refusal, TooDeep, syntax_refusal, place_of, IsModelRefusal}
+use Rattle.asm_syntax.specs.Texts.{most_bytes, IsModel, IsRefusedModel}
 use Rattle.asm_lex_theory.specs.Scan.{lexed_from}
 use Rattle.asm_lex_theory.proofs.Whole.{lexes_is, reads}
-use Rattle.asm_parse_theory.specs.Reading as reading
-use Rattle.asm_parse_theory.proofs.Whole.{model_sound, model_complete}
+use Rattle.asm_parse_theory.specs.Models as reading
+use Rattle.asm_parse_theory.specs.Models.{first_foreign}
+use Rattle.asm_parse_theory.proofs.ModelRefusals.{foreign_refusal, left_refusal, found_syntax, found_too_deep, tree_found, one_tree, spelled_not_refused, one_model_refusal}
 use Rattle.asm_program.specs.declared.program.Program.{Program}
+use Rattle.asm_program.specs.declared.bad_text.BadText.{BadText}
 use Rattle.asm_program.specs.Typed.{program_of}
-use Rattle.asm_texts.specs.Texts.{taken_whole, tree_read, tree_lexed, tree_of, most_run_bytes, IsProgram, program_of_text}
+use Rattle.asm_texts.specs.Texts.{told_refusal, told_long, told_unbuilt, tree_replied, tree_read, tree_lexed, tree_within, tree_of, IsProgram, IsBadText, too_long, unlexed, unread, unbuilt, built, program_of_tree, meaning_of_text}
 
 -- ---- limits
 
-le_is : (a b : ℕ) → nat_le a b ≡ true → a ≤ b
-le_is a b h = grind (arith, nat_tests)
+is_within : (a b : ℕ) → nat_le a b ≡ true → a ≤ b
+is_within a b h = grind (arith, nat_tests)
 
-is_le : (a b : ℕ) → a ≤ b → nat_le a b ≡ true
-is_le a b h = grind (arith, nat_tests)
+is_above : (a b : ℕ) → nat_le a b ≡ false → b < a
+is_above a b h = grind (arith, nat_tests)
 
--- what is there within a limit
-given : {A : Type 0} (b : Bool) (o : Option A) (v : A) → (if b then o else None) ≡ Some v → (b ≡ true) × (o ≡ Some v)
-given true o v e = (refl, e)
-given false o v e = absurd (cc)
+within_is : (a b : ℕ) → a ≤ b → nat_le a b ≡ true
+within_is a b h = grind (arith, nat_tests)
 
--- ---- trees
+above_is : (a b : ℕ) → b < a → nat_le a b ≡ false
+above_is a b h = grind (arith, nat_tests)
 
-taken_is : (reply : Reply Token ModelTree) (tree : ModelTree) → taken_whole reply ≡ Some tree → reply ≡ Took tree []
-taken_is (Took t []) tree e = let same : t ≡ tree = cc in ap (λ v. Took v []) same
-taken_is (Took t (u ∷ us)) tree e = absurd (cc)
-taken_is (Refused is_too_deep us) tree e = absurd (cc)
+-- ---- the tree of a list of tokens
 
-read_is : (text : List ℕ) (tokens : List Token) (stop : Stop) (tree : ModelTree)
-    → Lexes 0 text tokens stop → tree_read tokens stop ≡ Some tree → length text ≤ most_bytes → IsModel text tree
-read_is text tokens End tree l e h =
-    record { tokens = tokens; lexes = l; spells = model_sound tokens tree (taken_is (reading.model 64 tokens) tree e); short = h }
-read_is text tokens (At fault place) tree l e h = absurd (cc)
+-- the tree that the tokens spell, or what is told of their first refusal
+abbrev Reads : List ℕ → List Token → Result ModelTree BadText → Type 0
+Reads text tokens (Ok tree) = SpellsModel tree tokens
+Reads text tokens (Err told) =
+    (why : Refusal) × (rest : List Token) × IsModelRefusal tokens why rest × (told ≡ told_refusal text why (place_of (length text) rest))
 
-pub tree_sound : (text : List ℕ) (tree : ModelTree) → tree_of text ≡ Some tree → IsModel text tree
+reply_reads : (text : List ℕ) (tokens : List Token) → first_foreign tokens ≡ None → (reply : Reply Token (List Import × ModelTree))
+    → reading.model 64 tokens ≡ reply → Reads text tokens (tree_replied text reply)
+reply_reads text tokens none (Took v []) e = tree_found tokens v.0 v.1 none e
+reply_reads text tokens none (Took v (t ∷ rest)) e = (syntax_refusal (t ∷ rest), t ∷ rest, left_refusal tokens v t rest none e, refl)
+reply_reads text tokens none (Refused false rest) e = (syntax_refusal rest, rest, found_syntax tokens rest none e, refl)
+reply_reads text tokens none (Refused true rest) e = (TooDeep, rest, found_too_deep tokens rest none e, refl)
+
+read_reads : (text : List ℕ) (tokens : List Token) (found : Option (Import × List Token)) → first_foreign tokens ≡ found
+    → Reads text tokens (tree_read text tokens found)
+read_reads text tokens None e = reply_reads text tokens e (reading.model 64 tokens) refl
+read_reads text tokens (Some found) e = (_, found.1, foreign_refusal tokens found.0 found.1 e, refl)
+
+all_reads : (text : List ℕ) (tokens : List Token) → Reads text tokens (tree_read text tokens (first_foreign tokens))
+all_reads text tokens = read_reads text tokens (first_foreign tokens) refl
+
+-- what is spelled or refused is what is read
+spelled_is : (text : List ℕ) (tokens : List Token) (tree : ModelTree) → SpellsModel tree tokens → (r : Result ModelTree BadText) → Reads text tokens r → r ≡ Ok tree
+spelled_is text tokens tree s (Ok other) h = ap (λ t. Ok t) (one_tree tokens other tree h s)
+spelled_is text tokens tree s (Err told) h = absurd (spelled_not_refused tokens tree h.0 h.1 s h.2)
+
+refused_is : (text : List ℕ) (tokens : List Token) (why : Refusal) (rest : List Token) → IsModelRefusal tokens why rest → (r : Result ModelTree BadText)
+    → Reads text tokens r → r ≡ Err (told_refusal text why (place_of (length text) rest))
+refused_is text tokens why rest s (Ok tree) h = absurd (spelled_not_refused tokens tree why rest h s)
+refused_is text tokens why rest s (Err told) h =
+    let same = one_model_refusal tokens h.0 why h.1 rest h.2 s in
+    ap (λ t. Err t) (h.3 ∙ (λ i. told_refusal text (same.0 i) (place_of (length text) (same.1 i))))
+
+-- ---- the tree of a text
+
+-- the text's tree, or what is told of it
+abbrev Tells : List ℕ → Result ModelTree BadText → Type 0
+Tells text (Ok tree) = IsModel text tree
+Tells text (Err why) = IsBadText text why
+
+tokens_tell : (text : List ℕ) (tokens : List Token) → Lexes 0 text tokens End → length text ≤ most_bytes → (r : Result ModelTree BadText)
+    → Reads text tokens r → Tells text r
+tokens_tell text tokens l short (Ok tree) h = record { tokens = tokens; lexes = l; spells = h; short = short }
+tokens_tell text tokens l short (Err told) h =
+    subst (IsBadText text) (sym h.3) (unread (record { tokens = tokens; rest = h.1; lexes = l; short = short; refused = h.2; there = refl }))
+
+lexed_tells : (text : List ℕ) (tokens : List Token) (stop : Stop) → Lexes 0 text tokens stop → length text ≤ most_bytes → Tells text (tree_lexed text tokens stop)
+lexed_tells text tokens End l short = tokens_tell text tokens l short (tree_read text tokens (first_foreign tokens)) (all_reads text tokens)
+lexed_tells text tokens (At fault at) l short = unlexed short l
+
+tree_tells : (text : List ℕ) → Tells text (tree_of text)
 unfolding tree_of
-tree_sound text tree e =
-    let parts = given (nat_le (length text) most_bytes) (tree_lexed (lexed_from text zero 0)) tree e in
-    read_is text (lexed_from text zero 0).0 (lexed_from text zero 0).1 tree (reads text 0) parts.1 (le_is (length text) most_bytes parts.0)
+tree_tells text = by (nat_le (length text) most_bytes) refl
+  where
+    by : (short : Bool) → nat_le (length text) most_bytes ≡ short → Tells text (if short then tree_within text (lexed_from text zero 0) else Err (told_long text))
+    by true e = lexed_tells text (lexed_from text zero 0).0 (lexed_from text zero 0).1 (reads text 0) (is_within (length text) most_bytes e)
+    by false e = too_long (is_above (length text) most_bytes e)
 
-pub tree_complete : (text : List ℕ) (tree : ModelTree) → IsModel text tree → tree_of text ≡ Some tree
+pub tree_sound : (text : List ℕ) (tree : ModelTree) → tree_of text ≡ Ok tree → IsModel text tree
+tree_sound text tree e = subst (Tells text) e (tree_tells text)
+
+-- the tree of a text that is read so
+lexed_is : (text : List ℕ) (tokens : List Token) (stop : Stop) → Lexes 0 text tokens stop → length text ≤ most_bytes → tree_of text ≡ tree_lexed text tokens stop
 unfolding tree_of
-tree_complete text tree m =
-    ap (λ b. if b then tree_lexed (lexed_from text zero 0) else None) (is_le (length text) most_bytes m.short)
-    ∙ ap tree_lexed (lexes_is 0 text m.tokens End m.lexes)
-    ∙ ap taken_whole (model_complete m.tokens tree m.spells)
+lexed_is text tokens stop l short =
+    ap (λ b. if b then tree_within text (lexed_from text zero 0) else Err (told_long text)) (within_is (length text) most_bytes short)
+    ∙ ap (tree_within text) (lexes_is 0 text tokens stop l)
+
+pub tree_complete : (text : List ℕ) (tree : ModelTree) → IsModel text tree → tree_of text ≡ Ok tree
+tree_complete text tree m = lexed_is text m.tokens End m.lexes m.short ∙ spelled_is text m.tokens tree m.spells _ (all_reads text m.tokens)
 
 -- ---- programs
 
-typed_is : (text : List ℕ) (program : Program) (found : Option ModelTree) → tree_of text ≡ found
-    → option_and_then program_of found ≡ Some program → length text ≤ most_run_bytes → IsProgram text program
-typed_is text program None t e h = absurd (cc)
-typed_is text program (Some tree) t e h = record { tree = tree; model = tree_sound text tree t; typed = e; short = h }
+-- the text's program, or what is told of it
+abbrev Means : List ℕ → Result Program BadText → Type 0
+Means text (Ok program) = IsProgram text program
+Means text (Err why) = IsBadText text why
 
-pub program_sound : (text : List ℕ) (program : Program) → program_of_text text ≡ Some program → IsProgram text program
-unfolding program_of_text
-program_sound text program e =
-    let parts = given (nat_le (length text) most_run_bytes) (option_and_then program_of (tree_of text)) program e in
-    typed_is text program (tree_of text) refl parts.1 (le_is (length text) most_run_bytes parts.0)
+built_means : (text : List ℕ) (tree : ModelTree) → IsModel text tree → (found : Option Program) → program_of tree ≡ found → Means text (built text found)
+built_means text tree m None e = unbuilt m e
+built_means text tree m (Some program) e = record { tree = tree; model = m; typed = e }
 
-pub program_complete : (text : List ℕ) (program : Program) → IsProgram text program → program_of_text text ≡ Some program
-unfolding program_of_text
-program_complete text program p =
-    ap (λ b. if b then option_and_then program_of (tree_of text) else None) (is_le (length text) most_run_bytes p.short)
-    ∙ ap (option_and_then program_of) (tree_complete text p.tree p.model)
-    ∙ p.typed
+tree_means : (text : List ℕ) (r : Result ModelTree BadText) → Tells text r → Means text (program_of_tree text r)
+tree_means text (Ok tree) h = built_means text tree h (program_of tree) refl
+tree_means text (Err why) h = h
 
-pub program_none : (text : List ℕ) → ((program : Program) → IsProgram text program → ⊥) → program_of_text text ≡ None
-program_none text none = none_found (program_of_text text) refl
-  where
-    none_found : (found : Option Program) → program_of_text text ≡ found → program_of_text text ≡ None
-    none_found None e = e
-    none_found (Some program) e = absurd (none program (program_sound text program e))
+means : (text : List ℕ) → Means text (meaning_of_text text)
+unfolding meaning_of_text
+means text = tree_means text (tree_of text) (tree_tells text)
+
+pub program_sound : (text : List ℕ) (program : Program) → meaning_of_text text ≡ Ok program → IsProgram text program
+program_sound text program e = subst (Means text) e (means text)
+
+pub bad_sound : (text : List ℕ) (why : BadText) → meaning_of_text text ≡ Err why → IsBadText text why
+bad_sound text why e = subst (Means text) e (means text)
+
+pub program_complete : (text : List ℕ) (program : Program) → IsProgram text program → meaning_of_text text ≡ Ok program
+unfolding meaning_of_text
+program_complete text program p = ap (program_of_tree text) (tree_complete text p.tree p.model) ∙ ap (built text) p.typed
+
+-- what a text means whose tree is told
+told_is : (text : List ℕ) (why : BadText) → tree_of text ≡ Err why → meaning_of_text text ≡ Err why
+unfolding meaning_of_text
+told_is text why e = ap (program_of_tree text) e
+
+unbuilt_is : (text : List ℕ) (tree : ModelTree) → IsModel text tree → program_of tree ≡ None → meaning_of_text text ≡ Err (told_unbuilt text)
+unfolding meaning_of_text
+unbuilt_is text tree m none = ap (program_of_tree text) (tree_complete text tree m) ∙ ap (built text) none
+
+long_is : (text : List ℕ) → most_bytes < length text → tree_of text ≡ Err (told_long text)
+unfolding tree_of
+long_is text long = ap (λ b. if b then tree_within text (lexed_from text zero 0) else Err (told_long text)) (above_is (length text) most_bytes long)
+
+unread_is : (text : List ℕ) (why : Refusal) (at : ℕ) → IsRefusedModel text why at → tree_of text ≡ Err (told_refusal text why at)
+unread_is text why at m =
+    lexed_is text m.tokens End m.lexes m.short
+    ∙ refused_is text m.tokens why m.rest m.refused _ (all_reads text m.tokens)
+    ∙ ap (λ place. Err (told_refusal text why place)) (sym m.there)
+
+pub bad_complete : (text : List ℕ) (why : BadText) → IsBadText text why → meaning_of_text text ≡ Err why
+bad_complete text why (too_long long) = told_is text why (long_is text long)
+bad_complete text why (unlexed {tokens = tokens} {fault = fault} {at = at} short l) = told_is text why (lexed_is text tokens (At fault at) l short)
+bad_complete text told (unread {why = why} {at = at} m) = told_is text told (unread_is text why at m)
+bad_complete text why (unbuilt {tree = tree} m none) = unbuilt_is text tree m none
