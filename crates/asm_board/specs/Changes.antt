@@ -1,8 +1,9 @@
 -- What each change comes to at the models of its footprint: its refusals in their order, or its Ok tree and the new contents.
-use Rattle.std.specs.Prelude.{ℕ, Bool, false, ◌&&◌, ◌||◌, ◌==◌, nat_le, length, List, [], ◌∷◌, is_none, codes, Ok, Err}
+use Rattle.std.specs.Prelude.{ℕ, Bool, false, ◌&&◌, ◌||◌, ◌==◌, nat_le, length, List, [], ◌∷◌, is_none, codes, Result, Ok, Err}
 use Rattle.std.specs.List.{list_all}
 use Rattle.asm_value.specs.State.{StateMap}
 use Rattle.asm_program.specs.declared.program.Program.{Program}
+use Rattle.asm_program.specs.declared.bad_text.BadText.{BadText}
 use Rattle.asm_portable.specs.declared.port.Port.{Port}
 use Rattle.asm_portable.specs.Ports.{text}
 use Rattle.asm_board.specs.declared.call.Call.{Call}
@@ -49,6 +50,12 @@ most_name_bytes = 64
 abbrev pub is_right_name : List ℕ → Bool
 is_right_name name = is_identifier name && nat_le (length name) most_name_bytes
 
+-- ---- texts
+
+abbrev pub unless_bad : Result Program BadText → Tried Program
+unless_bad (Ok program) = Ok program
+unless_bad (Err bad) = Err (bad_text bad)
+
 -- ---- contents
 
 -- a state, or the clash for which nothing was fired
@@ -62,7 +69,7 @@ with_state program state = record { program = program; state = state }
 module _ (m : Meanings) where
   -- the program of a text
   abbrev pub program_in : List ℕ → Tried Program
-  program_in source = is_there (m.program_of source) bad_text
+  program_in source = unless_bad (m.program_of source)
 
   -- the state after one step
   abbrev pub stepped : Whose → Program → StateMap → Tried StateMap

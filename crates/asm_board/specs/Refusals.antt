@@ -1,5 +1,6 @@
 -- Refusals: what each says, and how the first of several is the outcome.
 use Rattle.std.specs.Prelude.{ℕ, List, [], ◌∷◌, ◌++◌, Bool, Option, Some, None, Result, Ok, Err, codes, if◌then◌else◌}
+use Rattle.asm_program.specs.declared.bad_text.BadText.{BadText}
 use Rattle.asm_portable.specs.declared.port.Port.{Port}
 use Rattle.asm_portable.specs.declared.port.Field.{Field}
 use Rattle.asm_portable.specs.Ports.{text, number, list, field, fields}
@@ -65,10 +66,10 @@ name_taken name version = no.NameTaken (fields (model_is name ∷ field (codes "
 abbrev pub models_full : ℕ → Refusal
 models_full limit = no.ModelsFull (fields (field (codes "limit") (number limit) ∷ []))
 
--- the text is none of those that are built; no place is told yet
-abbrev pub bad_text : Refusal
-bad_text = no.BadText (fields
-    (field (codes "column") (number 1) ∷ field (codes "kind") (text (codes "Unbuilt")) ∷ field (codes "line") (number 1) ∷ field (codes "more") (text []) ∷ []))
+-- the text has no program: its first refusal
+abbrev pub bad_text : BadText → Refusal
+bad_text bad = no.BadText (fields
+    (field (codes "column") (number bad.column) ∷ field (codes "kind") (text bad.kind) ∷ field (codes "line") (number bad.line) ∷ field (codes "more") (text bad.more) ∷ []))
 
 -- no such model exists
 abbrev pub unknown_model : List ℕ → Refusal

@@ -4,6 +4,7 @@ ghost use Rattle.asm_portable.specs.Ports.{text, number, field, fields as fields
 ghost use Rattle.asm_board.specs.Refusals as spec;
 
 use asm_portable::{Port, push_field};
+use asm_program::BadText;
 use asm_value::List;
 use std::alloc::{AllocError, Global};
 
@@ -25,7 +26,7 @@ pub enum Refusal {
     NameTaken(Port),
     /// As many models exist as may.
     ModelsFull(Port),
-    /// The text is no model.
+    /// The text has no program.
     BadText(Port),
     /// No such model exists.
     UnknownModel(Port),
@@ -106,20 +107,19 @@ impl Refusal {
         Ok(Refusal::ModelsFull(one_number(alloc, "limit", limit)?))
     }
 
-    /// The refusal of a text that is no model. Its line and column are 1, since no place is told.
-    pub fn bad_text(alloc: Global) -> Result<Refusal, AllocError>
-        ensures { IfOk result (λ refusal. refusal ≡ spec.bad_text) }
+    /// The refusal of a text that has no program.
+    pub fn bad_text(alloc: Global, bad: &BadText) -> Result<Refusal, AllocError>
+        ensures { IfOk result (λ refusal. refusal ≡ spec.bad_text bad.now) }
     {
         let mut fields = List::new(alloc);
-        push_field(alloc, &mut fields, "column", Port::from_number(1))?;
-        push_field(
-            alloc,
-            &mut fields,
-            "kind",
-            Port::from_text(alloc, "Unbuilt")?,
-        )?;
-        push_field(alloc, &mut fields, "line", Port::from_number(1))?;
-        push_field(alloc, &mut fields, "more", Port::from_text(alloc, "")?)?;
+        let column = Port::from_number(u64::from(bad.column));
+        push_field(alloc, &mut fields, "column", column)?;
+        let kind = Port::from_text(alloc, bad.kind.as_str())?;
+        push_field(alloc, &mut fields, "kind", kind)?;
+        let line = Port::from_number(u64::from(bad.line));
+        push_field(alloc, &mut fields, "line", line)?;
+        let more = Port::from_text(alloc, bad.more.as_str())?;
+        push_field(alloc, &mut fields, "more", more)?;
         Ok(Refusal::BadText(Port::Fields(fields)))
     }
 

@@ -1,7 +1,7 @@
 //! The texts of replies, weights, boards and outcomes, worked out by hand.
 use crate::{Board, Body, Call, Changed, Content, Outcome, Prepared, Refusal, Reply, Shared, Slot};
 use asm_portable::{Port, push_field};
-use asm_program::{Program, Rule};
+use asm_program::{BadText, Program, Rule};
 use asm_state::State;
 use asm_value::{List, Text};
 use std::alloc::{AllocError, Global};
@@ -11,6 +11,17 @@ fn clash(alloc: Global) -> Result<Refusal, AllocError> {
     let mut fields = List::new(alloc);
     push_field(alloc, &mut fields, "step", Port::from_number(2))?;
     Ok(Refusal::Clash(Port::Fields(fields)))
+}
+
+fn bad_text(alloc: Global) -> Result<BadText, AllocError> {
+    let kind = Text::from_str(alloc, "Unsupported")?;
+    let more = Text::from_str(alloc, "while")?;
+    Ok(BadText {
+        kind,
+        more,
+        line: 2,
+        column: 5,
+    })
 }
 
 /// Each refusal, with its text behind the number of a reply.
@@ -36,8 +47,8 @@ fn refusals(alloc: Global, name: &str) -> Result<Vec<(Refusal, &'static str)>, F
             "\"no\":\"ModelsFull\",\"why\":{\"limit\":32}}",
         ),
         (
-            Refusal::bad_text(alloc)?,
-            "\"no\":\"BadText\",\"why\":{\"column\":1,\"kind\":\"Unbuilt\",\"line\":1,\"more\":\"\"}}",
+            Refusal::bad_text(alloc, &bad_text(alloc)?)?,
+            "\"no\":\"BadText\",\"why\":{\"column\":5,\"kind\":\"Unsupported\",\"line\":2,\"more\":\"while\"}}",
         ),
         (
             Refusal::unknown_model(alloc, name)?,
