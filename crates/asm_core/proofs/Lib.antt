@@ -3,5 +3,5 @@ pub mod Journals
 pub mod Kept
 pub mod Standing
 pub mod Answered
-pub mod Programs
 pub mod Stepping
+pub mod Placed

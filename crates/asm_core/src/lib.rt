@@ -1,6 +1,7 @@
 //! Answers to calls: the definitions of what each means, carried out.
 #![tactic(auto)]
 
+mod bad_texts;
 mod changes;
 mod clashes;
 mod one;

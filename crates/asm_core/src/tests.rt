@@ -41,8 +41,6 @@ fn told(alloc: Global, one: &mut One, call: &Call) -> Result<(u64, Text), AllocE
 fn a_run_is_told_as_its_text_says(rt: HostRuntime) -> Result<(), Fail> {
     let alloc = rt.alloc();
     let mut one = One::new(alloc, 0)?;
-    let bad =
-        "\"no\":\"BadText\",\"why\":{\"column\":1,\"kind\":\"Unbuilt\",\"line\":1,\"more\":\"\"}}";
     let rows = [
         (
             Q,
@@ -59,22 +57,106 @@ fn a_run_is_told_as_its_text_says(rt: HostRuntime) -> Result<(), Fail> {
             2,
             "\"ok\":{\"domains\":{},\"functions\":{\"a\":1,\"b\":1},\"steps\":2}}",
         ),
-        (
-            "asm P signature: definitions: main rule r_M = par skip",
-            1,
-            bad,
-        ),
-        (
-            "asm U signature: definitions: main rule r_M = x := 1",
-            1,
-            bad,
-        ),
     ];
     for (text, steps, want) in rows {
         let (at, tail) = told(alloc, &mut one, &run(alloc, text, steps)?)?;
         assert_eq!(rt; at, 0, "{text}");
         assert_eq!(rt; tail.as_str(), want, "{text}");
     }
+    Ok(())
+}
+
+/// What is told of a text that has no program.
+fn told_of(alloc: Global, text: &str) -> Result<Text, Fail> {
+    let mut one = One::new(alloc, 0)?;
+    let (at, tail) = told(alloc, &mut one, &run(alloc, text, 1)?)?;
+    Ok(if at == 0 { tail } else { Text::new(alloc) })
+}
+
+#[test]
+fn a_bad_text_is_told_with_its_first_refusal(rt: HostRuntime) -> Result<(), Fail> {
+    let alloc = rt.alloc();
+    let rows = [
+        ("asm B ?", 7, "BadByte", 1, ""),
+        ("asm B\n  /*", 3, "OpenComment", 2, ""),
+        ("asm B \"x", 7, "OpenString", 1, ""),
+        (
+            "170141183460469231731687303715884105728",
+            1,
+            "NumberTooLarge",
+            1,
+            "",
+        ),
+        ("", 1, "Syntax", 1, ""),
+        (
+            "asm P signature: definitions: main rule r_M = par skip",
+            55,
+            "Syntax",
+            1,
+            "",
+        ),
+        ("asm M\nimport other", 8, "Unsupported", 2, "other"),
+        (
+            "asm M import other signature: definitions: main rule r_M =",
+            14,
+            "Unsupported",
+            1,
+            "other",
+        ),
+        (
+            "asm W signature: definitions:\nmain rule r_M = while",
+            17,
+            "Unsupported",
+            2,
+            "while",
+        ),
+        (
+            "asm U signature: definitions: main rule r_M = x := 1",
+            1,
+            "Unbuilt",
+            1,
+            "",
+        ),
+        (
+            "asm S signature: definitions: main rule r_M = seq skip endseq",
+            1,
+            "Unbuilt",
+            1,
+            "",
+        ),
+    ];
+    for (text, column, kind, line, more) in rows {
+        let want = format!(in alloc;
+            "\"no\":\"BadText\",\"why\":{{\"column\":{column},\"kind\":\"{kind}\",\"line\":{line},\"more\":\"{more}\"}}}}"
+        )?;
+        assert_eq!(rt; told_of(alloc, text)?.as_str(), want.as_str(), "{text}");
+    }
+    Ok(())
+}
+
+#[test]
+fn a_text_of_262145_bytes_is_too_long(rt: HostRuntime) -> Result<(), Fail> {
+    let alloc = rt.alloc();
+    let mut text = Text::new(alloc);
+    for _ in 0..262_145 {
+        text.push_str(" ")?;
+    }
+    let want =
+        "\"no\":\"BadText\",\"why\":{\"column\":1,\"kind\":\"TextTooLong\",\"line\":1,\"more\":\"262145\"}}";
+    assert_eq!(rt; told_of(alloc, text.as_str())?.as_str(), want);
+    Ok(())
+}
+
+#[test]
+fn the_65th_open_construct_is_too_deep(rt: HostRuntime) -> Result<(), Fail> {
+    let alloc = rt.alloc();
+    let mut text = Text::from_str(alloc, "asm D signature: definitions: main rule r_M = \n")?;
+    for _ in 0..65 {
+        text.push_str("par ")?;
+    }
+    let want =
+        "\"no\":\"BadText\",\"why\":{\"column\":257,\"kind\":\"TooDeep\",\"line\":2,\"more\":\"\"}}";
+    assert_eq!(rt; told_of(alloc, text.as_str())?.as_str(), want);
     Ok(())
 }
 

@@ -1,40 +1,44 @@
 //! The program of a text.
-ghost use Rattle.std.specs.Prelude.{◌≡◌, IfOk, MatchOption};
-ghost use Rattle.asm_program.specs.declared.program.Program.{Program as Programs};
-ghost use Rattle.asm_texts.specs.Texts.{IsProgram};
+ghost use Rattle.std.specs.Prelude.{◌≡◌, IfOk, MatchResult};
+ghost use Rattle.asm_syntax.specs.Texts.{IsModel};
+ghost use Rattle.asm_texts.specs.Texts.{IsProgram, IsBadText};
 ghost use Rattle.asm_board.specs.Changes as spec;
 ghost use Rattle.asm_core.specs.Comes.{Comes};
 ghost use Rattle.asm_core.specs.Language.{asmeta};
 
+use crate::bad_texts::{unbuilt, unread};
 use crate::stop::Stop;
 use asm_board::Refusal;
-use asm_parse::{ParseRefusal, parse_model};
-use asm_program::Program;
-use asm_texts::{a_text_has_its_program, a_text_without_program};
+use asm_parse::parse_model;
+use asm_program::{BadText, Program};
+use asm_syntax::ModelTree;
+use asm_texts::{a_bad_text_is_told, a_text_has_its_program};
 use asm_types::{TypeRefusal, check};
 use std::alloc::{AllocError, Global};
 
-/// The most bytes of a text that is run.
-const MOST_BYTES: usize = 16_384;
-
-/// The program of a text, if it has one.
-fn program_of(alloc: Global, text: &str) -> Result<Option<Program>, AllocError>
-    ensures { IfOk result (λ found. MatchOption found ((program : Programs) → IsProgram text.now program → ⊥) (IsProgram text.now)) }
+/// The program of a text's tree, or what is told of the text.
+fn meaning_of_tree(
+    alloc: Global,
+    text: &str,
+    tree: &ModelTree,
+) -> Result<Result<Program, BadText>, AllocError>
+    requires { IsModel text.now tree.now }
+    ensures { IfOk result (λ found. MatchResult found (IsProgram text.now) (IsBadText text.now)) }
 {
-    if text.len() > MOST_BYTES {
-        return Ok(None);
-    }
-    let tree = match parse_model(alloc, text) {
-        Ok(tree) => tree,
-        Err(ParseRefusal::NoMemory) => return Err(AllocError),
-        Err(ParseRefusal::Lex(_)) => return Ok(None),
-        Err(ParseRefusal::Syntax) => return Ok(None),
-        Err(ParseRefusal::TooDeep) => return Ok(None),
-    };
-    match check(alloc, &tree) {
-        Ok(program) => Ok(Some(program)),
+    match check(alloc, tree) {
+        Ok(program) => Ok(Ok(program)),
         Err(TypeRefusal::NoMemory) => Err(AllocError),
-        Err(TypeRefusal::Untyped) => Ok(None),
+        Err(TypeRefusal::Untyped) => Ok(Err(unbuilt(alloc, text)?)),
+    }
+}
+
+/// The program of a text, or what is told of it.
+fn meaning_of(alloc: Global, text: &str) -> Result<Result<Program, BadText>, AllocError>
+    ensures { IfOk result (λ found. MatchResult found (IsProgram text.now) (IsBadText text.now)) }
+{
+    match parse_model(alloc, text) {
+        Ok(tree) => meaning_of_tree(alloc, text, &tree),
+        Err(why) => Ok(Err(unread(alloc, text, &why)?)),
     }
 }
 
@@ -43,9 +47,9 @@ pub fn program_in(alloc: Global, text: &str) -> Result<Program, Stop>
     ensures { Comes (λ program. program) (spec.program_in asmeta text.now) result }
 {
     a_text_has_its_program();
-    a_text_without_program();
-    match program_of(alloc, text)? {
-        Some(program) => Ok(program),
-        None => Err(Stop::Refused(Refusal::bad_text(alloc)?)),
+    a_bad_text_is_told();
+    match meaning_of(alloc, text)? {
+        Ok(program) => Ok(program),
+        Err(bad) => Err(Stop::Refused(Refusal::bad_text(alloc, &bad)?)),
     }
 }
