@@ -1,1 +1,2 @@
--- No lemmas of this crate's own: every proof is found.
+-- Laws that the crates above cite.
+pub mod TreeOrder

@@ -3,8 +3,6 @@
 
 mod boxed;
 mod list;
-#[cfg(test)]
-mod tests;
 mod text;
 
 pub use boxed::Boxed;

@@ -1,5 +1,5 @@
 //! A growing text that contracts see as the list of its bytes.
-ghost use Rattle.std.specs.Prelude.{◌≡◌, ◌+◌, ◌/◌, [], ◌++◌, length, OnOk, OnErr, IfOk, nat_eq, Some, refl};
+ghost use Rattle.std.specs.Prelude.{◌≡◌, [], ◌++◌, OnOk, OnErr, IfOk, nat_eq, Some, refl};
 ghost use Rattle.std.specs.Ordering.{nat_cmp};
 ghost use Rattle.std.specs.Cmp.{partial_equiv_from_equiv};
 ghost use Rattle.std.specs.Cmp.Lexicographic.{pointwise, slice_cmp, nat_list_cmp_total, nat_list_eq_equiv, texts_po, texts_ties};
@@ -8,8 +8,8 @@ use std::alloc::{AllocError, Global};
 use std::cmp::Ordering;
 use std::marker::Model;
 
-/// A text in UTF-8, seen as its bytes. Texts are equal byte by byte, and ordered byte by byte with a
-/// prefix first. A text keeps the allocator that it was made with, and grows by it.
+/// A text in UTF-8, seen as its bytes. Texts are equal byte by byte, and ordered byte by byte with
+/// a prefix first. A text keeps the allocator that it was made with, and grows by it.
 #[derive(Debug, Drop)]
 pub struct Text {
     text: String,
@@ -24,6 +24,9 @@ impl Model for Text {
 }
 
 impl Text {
+    ghost use Rattle.std.specs.Prelude.{string_bytes};
+    ghost use Rattle.asm_base.specs.Weight.{text_weight};
+
     /// The text without bytes. Takes no memory.
     pub fn new(alloc: Global) -> Text
         ensures { result ≡ [] }
@@ -40,6 +43,13 @@ impl Text {
         Ok(Text {
             text: String::from_str(alloc, text)?,
         })
+    }
+
+    /// The text of a string, in the string's own memory. Takes no more.
+    pub fn from_string(text: String) -> Text
+        ensures { result ≡ string_bytes text }
+    {
+        Text { text }
     }
 
     /// Lends the text. Takes no memory.
@@ -60,7 +70,7 @@ impl Text {
     /// The weight of a text: 1, and 1 more for each whole 32 bytes. The limits on values and states
     /// count such units, which are this project's own. Takes no memory.
     pub fn weight(&self) -> u64
-        ensures { result ≡ 1 + length self.now / 32 }
+        ensures { result ≡ text_weight self.now }
     {
         1 + self.text.len() as u64 / 32
     }

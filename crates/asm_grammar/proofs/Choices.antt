@@ -127,7 +127,7 @@ module _ {T W : Type 0} (is_open : Bool) (test : T → Bool) where
     opened_at [] = ([], refl, inl refl)
     opened_at (t ∷ ts) = opened_at_2 t ts (test t) refl is_open refl
 
-    -- what the parser reads stands in a language in which one more may be open
+    -- what the parser reads is in a language in which one more may be open
     pub sound-opens : Sound (opened is_open test q) (opens is_open test L) (opens true test M)
     sound-opens = record { at = opened_at; wider = λ v ts h. (h.0, h.1, h.2, refl, (s h.3).wider v.1 h.0 h.4) }
 

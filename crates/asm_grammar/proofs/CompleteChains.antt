@@ -108,7 +108,7 @@ module _ {T V O : Type 0} (X : Bool) (fits fits' : V → Bool) (join : V → O �
 
   -- ---- whole steps
 
-  -- a list with a step and what follows, one token longer than what stands behind the step's first
+  -- a list with a step and what follows, one token longer than what follows the step's first
   shorter : (t : T) (x y ts : List T) (n : ℕ) → ts ≡ t ∷ (x ++ y) → length ts ≤ suc n → length y ≤ n
   shorter t x y ts n e le =
       let longer : length ts ≡ length (t ∷ (x ++ y)) = ap length e in
@@ -153,7 +153,7 @@ module _ {T V O : Type 0} (X : Bool) (fits fits' : V → Bool) (join : V → O �
   climb_last (suc n) left (t ∷ a) b le f bg =
       turn_reaches n left (t ∷ a ++ b) b (c.first t a bg) f (last_step n left b (step (t ∷ a ++ b)) (c.partly (t ∷ a) b bg))
 
-  -- a whole step with more behind it
+  -- a whole step with more after it
   mid_step : (n : ℕ) (left : V) (o : O) (rest b : List T) → Reaches X b (steps n (join left o) rest) → (r : Reply T O) → Gives X o rest r
       → Reaches X b (more n left r)
   mid_step n left o rest b g (Took w rest') h =

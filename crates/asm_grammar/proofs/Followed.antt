@@ -1,4 +1,4 @@
--- The parser of a form and of at most one step after it, which may stand only after a value that fits, is exact.
+-- The parser of a form and of at most one step after it, which is allowed only after a value that fits, is exact.
 use Rattle.std.proofs.Common.{◌≡◌, List, [], ◌∷◌, ◌++◌, Bool, true, false, inl, inr, refl, append_assoc}
 use Rattle.std.specs.Prelude.{Option, Some, None}
 use Rattle.asm_grammar.specs.Language.{Language, Dangles, dangling}

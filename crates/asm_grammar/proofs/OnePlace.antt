@@ -5,7 +5,7 @@ use Rattle.asm_grammar.specs.Language.{Language}
 use Rattle.asm_grammar.specs.Refusals.{GoesNoFurther, IsSyntax, IsTooDeep}
 use Rattle.asm_grammar.proofs.Fronts.{Fronts, two_fronts}
 
--- What stands before `rest` is a partial spelling, and with the next token it isn't.
+-- What is before `rest` is a partial spelling, and with the next token it isn't.
 record Stops {T V : Type 0} (L : Language T V) (ts rest : List T) : Type 0 where
   front : List T
   split : ts ≡ front ++ rest

@@ -17,7 +17,7 @@ not_longer t rest r =
     let longer : length rest ≡ length r.0 + length (t ∷ rest) = ap length r.1 ∙ length-append r.0 (t ∷ rest) in
     absurd (omega arith)
 
--- a parser that reached the tokens behind the next one didn't stop at it
+-- a parser that reached the tokens after the next one didn't stop at it
 reached : {T : Type 0} (next : T) (behind rest : List T) → rest ≡ next ∷ behind → (false ≡ true) ⊎ IsRestOf behind rest → ⊥
 reached next behind rest e (inl x) = absurd (cc x)
 reached next behind rest e (inr r) = not_longer next behind (subst (λ z. IsRestOf behind z) e r)

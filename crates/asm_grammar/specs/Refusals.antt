@@ -14,16 +14,16 @@ abbrev pub GoesNoFurther : {T V : Type 0} → Language T V → List T → List T
 GoesNoFurther {T} {V} free front [] = (v : V) → free.Spells v front → ⊥
 GoesNoFurther free front (t ∷ rest) = free.Begins (front ++ t ∷ []) → ⊥
 
--- The list is refused for its syntax where `rest` begins: what stands before is a partial spelling within the limit, and
--- even without a limit it goes no further.
+-- The list is refused for its syntax where `rest` begins: what is before it is a partial spelling
+-- within the limit, and even without a limit it goes no further.
 pub record IsSyntax {T V : Type 0} (within free : Language T V) (ts rest : List T) : Type 0 where
   pub front : List T
   pub split : ts ≡ front ++ rest
   pub before : within.Begins front
   pub there : GoesNoFurther free front rest
 
--- The list is refused for its depth where `rest` begins: with the next token it is a partial spelling without a limit,
--- and within the limit it isn't.
+-- The list is refused for its depth where `rest` begins: with the next token what is before it is a
+-- partial spelling without a limit, and within the limit it isn't.
 pub record IsTooDeep {T V : Type 0} (within free : Language T V) (ts rest : List T) : Type 0 where
   pub front : List T
   pub next : T
