@@ -1,2 +1,1 @@
--- Laws of the sets of updates that are defined below, in the specs of values.
-pub mod ListLaws
+-- No definitions of this crate's own: sets of updates are defined below, in the specs of values.

@@ -4,8 +4,8 @@ ghost use Rattle.std.specs.Prelude.{◌≡◌, IfOk};
 use asm_value::{Location, Value};
 use std::alloc::{AllocError, Global};
 
-/// A clash in a set of updates, lent by the set. The parts of the least clash are told by
-/// `UpdateSet::clash`.
+/// A clash in a set of updates, lent by the set. Which clash it is, `UpdateSet::clash`
+/// says.
 #[derive(Clone, Copy)]
 pub struct ClashRef<'a> {
     /// The location with two values.
@@ -16,7 +16,7 @@ pub struct ClashRef<'a> {
     pub second: &'a Value,
 }
 
-/// A clash that stands on its own, for outcomes that outlive the set.
+/// A clash in memory of its own, for outcomes that outlive the set.
 #[derive(Debug, Drop)]
 pub struct Clash {
     /// The location with two values.

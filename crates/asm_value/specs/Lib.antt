@@ -1,23 +1,12 @@
--- What contracts cite: values, domains, locations, states and sets of updates, and their laws.
-pub mod ClashLaws
+-- What contracts cite: values, domains, locations, states and sets of updates.
 pub mod Domain
-pub mod DomainLaws
 pub mod Enumerable
-pub mod EnumerableLaws
-pub mod FiringLaws
-pub mod Listing
 pub mod Living
-pub mod LivingLaws
 pub mod Location
-pub mod LocationLaws
-pub mod MemberLists
 pub mod Members
-pub mod MembersLaws
 pub mod Proper
 pub mod Ranges
 pub mod State
-pub mod StateLaws
-pub mod TreeOrder
+pub mod TotalOrders
 pub mod UpdateSet
 pub mod Value
-pub mod ValueLaws

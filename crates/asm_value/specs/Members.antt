@@ -1,5 +1,6 @@
 -- The members of a domain that is finite, at the members that the abstract domains have in a state.
-use Rattle.std.specs.Prelude.{◌≡◌, ℕ, ℤ, ◌≤◌, min, Bool, true, false, List, [], ◌∷◌, map, length, Some, None, slice_get}
+use Rattle.std.specs.Prelude.{◌≡◌, ℕ, ℤ, ◌≤◌, min, Bool, true, false, List, [], ◌∷◌, map, length}
+use Rattle.std.specs.Prelude.{Some, None, slice_get}
 use Rattle.std.specs.List.{AllByRecursion, list_all, range_with_len}
 use Rattle.std.specs.List.Sorted.{IsStrictlySortedBy}
 use Rattle.std.specs.Ordering.{nat_cmp, int_cmp}
@@ -28,23 +29,30 @@ numbers_of (kind.Abstract names) = []
 numbers_of (kind.Subset numbers) = numbers
 
 abbrev pub literal_count : List DomainInfo → ℕ → ℕ
-literal_count domains d = elim (slice_get domains d) as (λ _. ℕ) [ None ↦ 0 | Some info ↦ literals_of info.kind ]
+literal_count domains d =
+    elim (slice_get domains d) as (λ _. ℕ) [ None ↦ 0 | Some info ↦ literals_of info.kind ]
 
 abbrev pub subset_numbers : List DomainInfo → ℕ → List ℤ
-subset_numbers domains d = elim (slice_get domains d) as (λ _. List ℤ) [ None ↦ [] | Some info ↦ numbers_of info.kind ]
+subset_numbers domains d =
+    elim (slice_get domains d) as (λ _. List ℤ) [ None ↦ [] | Some info ↦ numbers_of info.kind ]
 
 -- the indexes of the members that the declared domain has in the state
 abbrev pub live_indexes : Live → ℕ → List ℕ
-live_indexes live d = elim (slice_get live.members d) as (λ _. List ℕ) [ None ↦ [] | Some indexes ↦ indexes ]
+live_indexes live d =
+    elim (slice_get live.members d) as (λ _. List ℕ) [ None ↦ [] | Some indexes ↦ indexes ]
 
 abbrev pub members_at : ℕ → List ℕ → List Value
 members_at d indexes = map (λ i. Member d i) indexes
 
+-- the literals of an enumeration, of which at most 65,535 are listed
+abbrev pub listed_literals : List DomainInfo → ℕ → List Value
+listed_literals domains d = members_at d (range_with_len 0 (min (literal_count domains d) 65535))
+
 module _ (domains : List DomainInfo) (live : Live) where
-  -- One level of the domain, with the members of each part in its place. Of an enumeration at most 65,535 literals are listed.
+  -- one level of the domain, with the members of each part in its place
   abbrev pub members_level : Domain-F (List Value) → List Value
   members_level Domain-F.Truth = Truth false ∷ Truth true ∷ []
-  members_level (Domain-F.Enum d) = members_at d (range_with_len 0 (min (literal_count domains d) 65535))
+  members_level (Domain-F.Enum d) = listed_literals domains d
   members_level (Domain-F.Abstract d) = members_at d (live_indexes live d)
   members_level (Domain-F.Subset d) = map (λ n. Int n) (subset_numbers domains d)
   members_level (Domain-F.Prod ranges) = map (λ xs. Tuple xs) (tuples ranges)
@@ -68,7 +76,8 @@ is_finite_level _ = false
 unfoldable pub is_finite : Domain → Bool
 is_finite = fold-Domain Bool is_finite_level
 
--- the integers of each subset and the indexes of members ascend, and no enumeration has over 65,535 literals
+-- the integers of each subset and the indexes of members ascend, and no enumeration has over 65,535
+-- literals
 pub record AreListed (domains : List DomainInfo) (live : Live) : Type 0 where
   pub literals : (d : ℕ) → literal_count domains d ≤ 65535
   pub numbers : (d : ℕ) → IsStrictlySortedBy int_cmp (subset_numbers domains d)

@@ -7,8 +7,8 @@ ghost use Rattle.asm_value.specs.Domain.{fits, each_passes};
 use crate::value::Value;
 use asm_base::{Boxed, List, Text};
 
-/// A domain: the type of a function's argument or value. Numbers are places in the list of the declared
-/// domains, from 0.
+/// A domain: the type of a function's argument or value. Numbers are indexes in the list of the
+/// declared domains, from 0.
 #[derive(Debug, Drop)]
 pub enum Domain {
     /// The two truth values.
@@ -33,7 +33,7 @@ pub enum Domain {
     Power(Boxed<Domain>),
 }
 
-/// What a declared domain is. Its names stand in text order.
+/// What a declared domain is. Its names are in text order.
 #[derive(Debug, Drop)]
 pub enum DomainKind {
     /// An enumeration: its literals.
@@ -100,11 +100,11 @@ fn is_live(live: &Live, domain: u16, index: u16) -> bool
     }
 }
 
-/// Whether the value is in the domain: members of abstract domains by those that are there in the state,
-/// `live`. Undef is in no domain, and a number that no declared domain has is an empty domain. Takes no
-/// memory.
+/// Whether the value is in the domain: members of abstract domains by those that are there in the
+/// state, `live`. Undef is in no domain, and a number that no declared domain has is an empty
+/// domain. Takes no memory.
 #[cycle(fits)]
-#[tactic(auto, using(crate::specs::DomainLaws::domain_steps))]
+#[tactic(auto, using(crate::proofs::DomainLaws::domain_steps))]
 pub fn fits(value: &Value, domains: &Domains, domain: &Domain, live: &Live) -> bool
     ensures { result ≡ fits domains.now live.now domain.now value.now }
 {
@@ -163,7 +163,7 @@ pub fn fits(value: &Value, domains: &Domains, domain: &Domain, live: &Live) -> b
 
 /// Whether each item is in the domain.
 #[cycle(fits)]
-#[tactic(auto, using(crate::specs::DomainLaws::domain_steps))]
+#[tactic(auto, using(crate::proofs::DomainLaws::domain_steps))]
 fn all_fit(items: &[Value], domains: &Domains, domain: &Domain, live: &Live) -> bool
     ensures { result ≡ list_all (fits domains.now live.now domain.now) items.now }
 {
@@ -175,9 +175,9 @@ fn all_fit(items: &[Value], domains: &Domains, domain: &Domain, live: &Live) -> 
     true
 }
 
-/// Whether there are as many items as domains, each item in the domain at its place.
+/// Whether there are as many items as domains, each item in the domain with its index.
 #[cycle(fits)]
-#[tactic(auto, using(crate::specs::DomainLaws::domain_steps))]
+#[tactic(auto, using(crate::proofs::DomainLaws::domain_steps))]
 fn fits_each(items: &[Value], domains: &Domains, parts: &[Domain], live: &Live) -> bool
     ensures { result ≡ each_passes (map (fits domains.now live.now) parts.now) items.now }
 {

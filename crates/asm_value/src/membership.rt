@@ -36,7 +36,7 @@ fn literal_count(domains: &Domains, domain: u16) -> usize
     }
 }
 
-/// The first literals of the declared domain, so many.
+/// The first `count` literals of the declared domain.
 fn literals(alloc: Global, domain: u16, count: u16) -> Result<List<Value>, AllocError>
     ensures { IfOk result (λ list. list ≡ members_at domain (range_with_len 0 count)) }
 {
@@ -49,10 +49,7 @@ fn literals(alloc: Global, domain: u16, count: u16) -> Result<List<Value>, Alloc
 
 /// The literals of the declared domain.
 fn enumerated(alloc: Global, domains: &Domains, domain: u16) -> Result<List<Value>, AllocError>
-    ensures { IfOk
-        result
-        (λ list.
-        list ≡ members_at domain (range_with_len 0 (min (spec.literal_count domains.now domain) 65535))) }
+    ensures { IfOk result (λ list. list ≡ spec.listed_literals domains.now domain) }
 {
     let count = literal_count(domains, domain).min(65_535);
     literals(alloc, domain, u16::try_from(count).unwrap_or(u16::MAX))
@@ -99,7 +96,7 @@ fn integers(alloc: Global, numbers: &[i128]) -> Result<List<Value>, AllocError>
 
 /// The integers of the declared domain.
 fn subset_members(alloc: Global, domains: &Domains, domain: u16) -> Result<List<Value>, AllocError>
-    ensures { IfOk result (λ list. list ≡ map (λ n. Int n) (spec.subset_numbers domains.now domain)) }
+    ensures { IfOk result (λ vs. vs ≡ map (λ n. Int n) (spec.subset_numbers domains.now domain)) }
 {
     match domains.as_slice().get(usize::from(domain)) {
         Some(info) => match &info.kind {
@@ -150,7 +147,7 @@ fn powerset(alloc: Global, items: &[Value]) -> Result<List<Value>, AllocError>
 
 /// The members as `specs/Members.antt` defines them.
 #[cycle(listed)]
-#[tactic(auto, using(crate::specs::MembersLaws::member_steps))]
+#[tactic(auto, using(crate::proofs::MembersLaws::member_steps))]
 fn listed(
     alloc: Global,
     domains: &Domains,
@@ -178,7 +175,7 @@ fn listed(
 
 /// The members of each domain.
 #[cycle(listed)]
-#[tactic(auto, using(crate::specs::MembersLaws::member_steps))]
+#[tactic(auto, using(crate::proofs::MembersLaws::member_steps))]
 fn listed_each(
     alloc: Global,
     domains: &Domains,
@@ -194,9 +191,9 @@ fn listed_each(
     Ok(all)
 }
 
-/// The members of a domain that is built of Boolean and declared domains by products and powersets: the
-/// values that fit it, in ascending order, at the members that the abstract domains have in a state,
-/// `live`. Of any other domain none are listed. `AllocError` is want of memory.
+/// The members of a domain that is built of Boolean and declared domains by products and powersets:
+/// the values that fit it, in ascending order, at the members that the abstract domains have in a
+/// state, `live`. Of any other domain none are listed. `AllocError` is want of memory.
 pub fn members(
     alloc: Global,
     domains: &Domains,

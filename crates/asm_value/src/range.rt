@@ -33,8 +33,8 @@ fn put_first(
     Ok(())
 }
 
-/// All lists that take one item from each of the lists, the first item slowest; so they ascend where
-/// the lists do. No lists at all give the empty list alone. `AllocError` is want of memory.
+/// All lists that take one item from each of the lists, the first item slowest; so they ascend
+/// where the lists do. No lists at all give the empty list alone. `AllocError` is want of memory.
 pub fn tuples(alloc: Global, ranges: &[List<Value>]) -> Result<List<List<Value>>, AllocError>
     ensures { IfOk result (λ all. all ≡ spec.tuples ranges.now) }
 {
@@ -54,19 +54,30 @@ pub fn tuples(alloc: Global, ranges: &[List<Value>]) -> Result<List<List<Value>>
     }
 }
 
-/// All sublists of the items, the empty one first. Of ascending items they ascend and are the sets over
-/// the items, each once. `AllocError` is want of memory.
+/// Appends equal lists, in their order.
+fn append(
+    alloc: Global,
+    lists: &[List<Value>],
+    all: &mut List<List<Value>>,
+) -> Result<(), AllocError>
+    ensures { OnOk result (all.new ≡ all.old ++ lists.now) }
+{
+    for list in lists {
+        all.push(copy_all(alloc, list.as_slice())?)?;
+    }
+    Ok(())
+}
+
+/// All sublists of the items, the empty one first. Of ascending items they ascend and are the sets
+/// over the items, each once. `AllocError` is want of memory.
 pub fn sets_of(alloc: Global, items: &[Value]) -> Result<List<List<Value>>, AllocError>
     ensures { IfOk result (λ all. all ≡ spec.sets_of items.now) }
 {
-    let mut all = List::new(alloc);
-    all.push(List::new(alloc))?;
+    let mut all = List::only(alloc, List::new(alloc))?;
     if let [first, rest @ ..] = items {
         let others = sets_of(alloc, rest)?;
         put_first(alloc, first, others.as_slice(), &mut all)?;
-        for list in &others.as_slice()[1..] {
-            all.push(copy_all(alloc, list.as_slice())?)?;
-        }
+        append(alloc, &others.as_slice()[1..], &mut all)?;
     }
     Ok(all)
 }

@@ -7,7 +7,7 @@ ghost use Rattle.asm_value.specs.declared.value.Value.TheVariants.{Undef};
 ghost use Rattle.asm_value.specs.Value as spec;
 ghost use Rattle.asm_value.specs.Value.{compare, whole_weight};
 ghost use Rattle.asm_value.specs.State.{is_undef};
-ghost use Rattle.asm_value.specs.ValueLaws.{compare_total};
+ghost use Rattle.asm_value.specs.TotalOrders.{compare_total};
 
 use asm_base::{List, Text};
 use std::alloc::{AllocError, Global};
@@ -17,7 +17,7 @@ use std::cmp::Ordering;
 /// variants, then by content. It and the weights are this project's own.
 #[derive(Debug, Drop)]
 pub enum Value {
-    /// The value of each location that has no other. It stands in no tuple, sequence or set.
+    /// The value of each location that has no other. It is in no tuple, sequence or set.
     Undef,
     /// A truth value; false comes before true.
     Truth(bool),
@@ -36,10 +36,10 @@ pub enum Value {
     Set(List<Value>),
 }
 
-#[tactic(auto, using(crate::specs::ValueLaws::value_steps))]
+#[tactic(auto, using(crate::proofs::ValueLaws::value_steps))]
 impl Value {
     /// The weight in units: a string 1 and 1 more for each whole 32 bytes; a tuple, a sequence or a
-    /// set 1 and its items; all else 1. 2^64 - 1 stands for that and more. Takes no memory.
+    /// set 1 and its items; all else 1. 2^64 - 1 means that and more. Takes no memory.
     #[cycle(weight)]
     pub fn weight(&self) -> u64
         ensures { result ≡ spec.weight self.now }
@@ -262,7 +262,7 @@ impl Value {
     }
 }
 
-/// The weight of a list: 1 and its items. 2^64 - 1 stands for that and more.
+/// The weight of a list: 1 and its items. 2^64 - 1 means that and more.
 #[cycle(weight)]
 pub fn one_and_all(items: &[Value]) -> u64
     ensures { result ≡ min (1 + sum_by whole_weight items.now) (2 ^ 64 - 1) }

@@ -3,7 +3,7 @@ use Rattle.std.proofs.Common.{sym, subst}
 use Rattle.std.proofs.lemmas.Result.{IfOk-weaker}
 use Rattle.asm_value.specs.Domain.{fits}
 use Rattle.asm_value.specs.Members.{Lists}
-use Rattle.asm_value.specs.MembersLaws.{members_listed}
+use Rattle.asm_value.proofs.MembersLaws.{members_listed}
 use Rattle.asm_value.proofs.membership.members.Goals as goal
 
 pub returns-clause-exactly : goal.returns-clause-exactly
@@ -12,4 +12,5 @@ returns-clause-exactly c are finite =
     let live = c.args.live.now in
     let domain = c.args.domain.now in
     IfOk-weaker c.listed.result _ (Lists (fits domains live domain))
-    (λ list e. subst (Lists (fits domains live domain)) (sym e) (members_listed domains live are domain finite)) c.listed.ensures
+    (λ list e. subst (Lists (fits domains live domain)) (sym e)
+    (members_listed domains live are domain finite)) c.listed.ensures

@@ -1,4 +1,5 @@
--- One more entry says one more member or none; and all entries are passed, and they are those of the map.
+-- One more entry says one more member or none; and all entries are passed, and they are those of
+-- the map.
 use Rattle.std.proofs.Common.{◌≡◌, [], ◌++◌, map, ap, sym, ◌∙◌, rules}
 use Rattle.std.specs.FinMap as finite
 use Rattle.std.specs.List.{filter_map, cons_option}
@@ -25,5 +26,7 @@ loop-location-preserved c =
     let e : Location × Value = (c.in-Some.location.now, c.in-Some.value.now) in
     c.in_ok-add.ensures
     ∙ ap (λ is. is ++ cons_option c.member_said.result []) c.loop-location.invariant
-    ∙ filter_map-push f (map deref_pair c.loop-location.yielded) e c.member_said.result c.member_said.ensures
-    ∙ ap (filter_map f) (sym (map_push deref_pair c.loop-location.yielded (c.in-Some.location, c.in-Some.value)))
+    ∙ filter_map-push f (map deref_pair c.loop-location.yielded) e c.member_said.result
+    c.member_said.ensures
+    ∙ ap (filter_map f) (sym (map_push deref_pair c.loop-location.yielded
+    (c.in-Some.location, c.in-Some.value)))

@@ -1,0 +1,1 @@
+-- No lemmas: every proof is found.
