@@ -10,7 +10,8 @@ use Rattle.asm_syntax.specs.declared.tree.RangesTree.{RangesTree}
 use Rattle.asm_syntax.specs.declared.tree.ParamsTree.{ParamsTree}
 use Rattle.asm_syntax.specs.declared.tree.IntTree.{IntTree}
 use Rattle.asm_syntax.specs.Marks.{is, id, variable, number}
-use Rattle.asm_syntax.specs.Forms.{nowhere, is_open, quoted, sign, after_word, after_sign, in_parentheses, listed, formed}
+use Rattle.asm_syntax.specs.Forms.{nowhere, is_open, quoted, sign, after_word, after_sign}
+use Rattle.asm_syntax.specs.Forms.{in_parentheses, listed, formed}
 
 abbrev pub prod_of : Span → DomainTree × (DomainTree × List DomainTree) → DomainTree
 prod_of span (first, (next, others)) = domains.Prod first next others span
@@ -31,32 +32,35 @@ int_of extent (Some minus, digits) = record { is_negative = true; number = digit
 -- domain = "Boolean" | "Integer" | "Natural" | "String" | ID
 --         | "Prod" "(" domain "," domain {"," domain} ")"
 --         | "Seq" "(" domain ")" | "Powerset" "(" domain ")"
--- `inner` stands for the domains one construct deeper.
+-- `inner` are the domains one construct deeper.
 module _ (is_open : Bool) (inner : Language Token DomainTree) where
   abbrev pub product : Language Token DomainTree
-  product = formed prod_of (after_word (codes "Prod") (in_parentheses is_open (inner then after_sign (codes ",") (listed inner))))
+  product = formed prod_of (after_word (codes "Prod")
+      (in_parentheses is_open (inner then after_sign (codes ",") (listed inner))))
 
   abbrev pub sequence : Language Token DomainTree
-  sequence = formed (λ span d. domains.Seq d span) (after_word (codes "Seq") (in_parentheses is_open inner))
+  sequence = formed (λ span d. domains.Seq d span)
+      (after_word (codes "Seq") (in_parentheses is_open inner))
 
   abbrev pub powerset : Language Token DomainTree
-  powerset = formed (λ span d. domains.Powerset d span) (after_word (codes "Powerset") (in_parentheses is_open inner))
+  powerset = formed (λ span d. domains.Powerset d span)
+      (after_word (codes "Powerset") (in_parentheses is_open inner))
 
   abbrev pub domain_form : Language Token DomainTree
   domain_form =
-      formed (λ span t. domains.Boolean span) (quoted (codes "Boolean"))
-      either formed (λ span t. domains.Integer span) (quoted (codes "Integer"))
-      either formed (λ span t. domains.Natural span) (quoted (codes "Natural"))
+      formed (λ span t. domains.Truth span) (quoted (codes "Boolean"))
+      either formed (λ span t. domains.Int span) (quoted (codes "Integer"))
+      either formed (λ span t. domains.Nat span) (quoted (codes "Natural"))
       either formed (λ span t. domains.Chars span) (quoted (codes "String"))
       either formed (λ span t. domains.Named t span) (word (is id))
       either product either sequence either powerset
 
--- what stands inside a construct, where so many more may be open before it
+-- the domains inside a construct, where this many may be open before it
 unfoldable pub inside : ℕ → Language Token DomainTree
 inside zero = nowhere
 inside (suc n) = domain_form (is_open n) (inside n)
 
--- domains in which at most so many constructs are open at once
+-- the domains in which at most this many constructs are open at once
 unfoldable pub domain : ℕ → Language Token DomainTree
 domain n = domain_form (is_open n) (inside n)
 

@@ -1,4 +1,4 @@
--- Where the trees stand in their text, and a term with another span.
+-- Where the trees are in their text, and a term with another span.
 use Rattle.asm_syntax.specs.declared.token.Span.{Span}
 use Rattle.asm_syntax.specs.declared.tree.TermTree.{TermTree}
 use Rattle.asm_syntax.specs.declared.tree.TermsTree.{TermsTree}
@@ -66,7 +66,7 @@ with_among span (TermTree-F.If guard first other s) = terms.If guard first other
 with_among span (TermTree-F.Let binds body s) = terms.Let binds body span
 with_among span (TermTree-F.Switch t cases other s) = terms.Switch t cases other span
 
--- where a term stands
+-- where a term is
 unfoldable pub extent : TermTree → Span
 extent t = span_among (out-TermTree t)
 
@@ -77,9 +77,9 @@ with_extent span t = with_among span (out-TermTree t)
 -- ---- other trees
 
 abbrev pub domain_span : DomainTree-F DomainTree → Span
-domain_span (DomainTree-F.Boolean span) = span
-domain_span (DomainTree-F.Integer span) = span
-domain_span (DomainTree-F.Natural span) = span
+domain_span (DomainTree-F.Truth span) = span
+domain_span (DomainTree-F.Int span) = span
+domain_span (DomainTree-F.Nat span) = span
 domain_span (DomainTree-F.Chars span) = span
 domain_span (DomainTree-F.Named t span) = span
 domain_span (DomainTree-F.Prod first next others span) = span

@@ -1,15 +1,18 @@
--- Forms that many lines of the grammar have. What always stands there leaves nothing in a form's value.
-use Rattle.std.specs.Prelude.{ℕ, zero, suc, Bool, true, false, ◌||◌, List, [], ◌∷◌, ◌++◌, codes, Option, unwrap_or}
-use Rattle.asm_grammar.specs.Language.{Language, word, ◌then◌, opens, ◌either◌, made, maybe, chain, dangling, spanned}
+-- Forms that many lines of the grammar have. Words that are always there leave nothing in a form's
+-- value.
+use Rattle.std.specs.Prelude.{ℕ, zero, suc, Bool, true, false, ◌||◌, List, [], ◌∷◌}
+use Rattle.std.specs.Prelude.{◌++◌, codes, Option, unwrap_or}
+use Rattle.asm_grammar.specs.Language.{Language, word, ◌then◌, opens, ◌either◌, made, maybe}
+use Rattle.asm_grammar.specs.Language.{chain, dangling, spanned}
 use Rattle.asm_syntax.specs.declared.token.Span.{Span}
 use Rattle.asm_syntax.specs.declared.token.Token.{Token}
 use Rattle.asm_syntax.specs.Marks.{is, keyword, symbol, span_of}
 
--- what stands nowhere
+-- what is allowed nowhere
 abbrev pub nowhere : {V : Type 0} → Language Token V
 nowhere = record { Spells = λ v ts. ⊥; Begins = λ ts. ⊥ }
 
--- whether one more construct may be open, where so many may
+-- whether one more construct may be open, where this many may
 abbrev pub is_open : ℕ → Bool
 is_open zero = false
 is_open (suc n) = true
@@ -80,7 +83,7 @@ many L = made or_none (maybe (several L))
 abbrev pub listed : {V : Type 0} → Language Token V → Language Token (V × List V)
 listed L = L then many (after_sign (codes ",") L)
 
--- what stands behind the first of a set: the other end of a range, or further ones
+-- what follows the first of a set: the other end of a range, or further ones
 pub data Rest (V : Type 0) : Type 0 where
   To : V → Rest V
   And : List V → Rest V
@@ -91,10 +94,13 @@ is_range_sign t = is (symbol (codes "..")) t || is (symbol (codes ":")) t
 
 -- x ((".." | ":") x | {"," x})
 abbrev pub members : {V : Type 0} → Language Token V → Language Token (V × Option (Rest V))
-members L = L then maybe (made To (made second (word is_range_sign then L)) either made And (several (after_sign (codes ",") L)))
+members L = L then maybe (
+    made To (made second (word is_range_sign then L))
+    either made And (several (after_sign (codes ",") L)))
 
 -- L, and then M or nothing; where L's value fails the test, nothing
-abbrev pub followed : {V W : Type 0} → (V → Bool) → Language Token V → Language Token W → Language Token (V × Option W)
+abbrev pub followed : {V W : Type 0} → (V → Bool) → Language Token V → Language Token W
+    → Language Token (V × Option W)
 followed fits L M = dangling fits L M
 
 -- ---- spans

@@ -12,7 +12,7 @@ use Rattle.asm_syntax.specs.Heights.{fits}
 use Rattle.asm_syntax.specs.Terms.{term_within}
 use Rattle.asm_syntax.specs.Models.{Import, model_within}
 
--- At most 64 constructs are open at once, and what stands left of an operator is at most 63 high.
+-- At most 64 constructs are open at once, and what is left of an operator is at most 63 high.
 unfoldable pub term : Language Token TermTree
 term = term_within fits 64
 

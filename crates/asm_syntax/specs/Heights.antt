@@ -1,7 +1,9 @@
--- The height of a term, which limits what may stand left of an operator.
-use Rattle.std.specs.Prelude.{ℕ, suc, Bool, List, [], ◌∷◌, Option, Some, None, nat_le, nat_lt, if◌then◌else◌}
+-- The height of a term, which limits what is allowed left of an operator.
+use Rattle.std.specs.Prelude.{ℕ, suc, Bool, List, [], ◌∷◌, Option, Some, None}
+use Rattle.std.specs.Prelude.{nat_le, nat_lt, if◌then◌else◌}
 use Rattle.asm_syntax.specs.declared.tree.TermTree.{TermTree, fold-TermTree}
-use Rattle.asm_syntax.specs.declared.tree.TermTree.TheOpen.{TermTree-F, TermsTree-F, BindTree-F, BindsTree-F, CaseTree-F}
+use Rattle.asm_syntax.specs.declared.tree.TermTree.TheOpen.{TermTree-F, TermsTree-F, BindTree-F}
+use Rattle.asm_syntax.specs.declared.tree.TermTree.TheOpen.{BindsTree-F, CaseTree-F}
 
 -- ---- heights
 
@@ -21,7 +23,8 @@ abbrev pub above : Option ℕ → ℕ
 above None = 0
 above (Some n) = suc n
 
--- Of a term without parts 0, else 1 plus the greatest height of a part. Lists, binds and cases give the greatest height in them.
+-- Of a term without parts 0, else 1 plus the greatest height of a part. Lists, binds and cases give
+-- the greatest height in them.
 abbrev pub term_step : TermTree-F ℕ ℕ ℕ ℕ ℕ → ℕ
 term_step (TermTree-F.Prefix op t span) = suc t
 term_step (TermTree-F.Binary left op right span) = suc (greater left right)
@@ -38,9 +41,11 @@ term_step (TermTree-F.Exist unique ranges body span) = suc body
 term_step (TermTree-F.Interval from to span) = suc (greater from to)
 term_step (TermTree-F.Set items span) = above items
 term_step (TermTree-F.Seq items span) = above items
-term_step (TermTree-F.If guard first other span) = suc (greater guard (greater first (or_zero other)))
+term_step (TermTree-F.If guard first other span) =
+    suc (greater guard (greater first (or_zero other)))
 term_step (TermTree-F.Let binds body span) = suc (greater binds body)
-term_step (TermTree-F.Switch t cases other span) = suc (greater t (greater (greatest cases) (or_zero other)))
+term_step (TermTree-F.Switch t cases other span) =
+    suc (greater t (greater (greatest cases) (or_zero other)))
 
 abbrev pub bind_step : BindTree-F ℕ ℕ ℕ ℕ ℕ → ℕ
 bind_step b = b.value

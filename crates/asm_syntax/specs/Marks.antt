@@ -4,7 +4,8 @@ use Rattle.std.specs.Str.{bytes_eq}
 use Rattle.asm_syntax.specs.declared.token.Span.{Span}
 use Rattle.asm_syntax.specs.declared.token.Token.{Token}
 use Rattle.asm_syntax.specs.declared.token.TokenKind.{TokenKind}
-use Rattle.asm_syntax.specs.declared.token.TokenKind.TheVariants.{Id, Var, Number, Chars, Keyword, Refused, Symbol}
+use Rattle.asm_syntax.specs.declared.token.TokenKind.TheVariants.{Id, Var, Number, Chars, Keyword}
+use Rattle.asm_syntax.specs.declared.token.TokenKind.TheVariants.{Refused, Symbol}
 
 -- a quoted word, a symbol, or a kind of token of which the text doesn't matter
 pub data Mark : Type 0 where
@@ -44,7 +45,7 @@ abbrev pub is_one_of : List Mark → Token → Bool
 is_one_of [] t = false
 is_one_of (mark ∷ marks) t = is mark t || is_one_of marks t
 
--- a token's text: of a variable without its `$`, of a string without its quotes, and of a number none
+-- a token's text: of a variable without its `$`, of a string without its quotes, of a number none
 abbrev pub kind_text : TokenKind → List ℕ
 kind_text (Id name) = name
 kind_text (Var name) = name

@@ -19,7 +19,7 @@ pub data Refusal : Type 0 where
 
 -- ---- at a token, or at the end
 
--- a token that stands where nothing has it: a refused word is told
+-- of a token that nothing has there: a refused word is named
 abbrev pub kind_refusal : TokenKind → Refusal
 kind_refusal (kinds.Refused word) = Unsupported word
 kind_refusal (kinds.Id name) = Syntax
@@ -34,9 +34,12 @@ syntax_refusal [] = Syntax
 syntax_refusal (t ∷ rest) = kind_refusal t.kind
 
 -- The list is refused where `rest` begins. A token that nothing has there is never too deep.
-pub data IsRefusedAt {V : Type 0} (within free : Language Token V) (ts : List Token) : Refusal → List Token → Type 0 where
-  syntax : {rest : List Token} → IsSyntax within free ts rest → IsRefusedAt within free ts (syntax_refusal rest) rest
-  too_deep : {rest : List Token} → IsTooDeep within free ts rest → IsRefusedAt within free ts TooDeep rest
+pub data IsRefusedAt {V : Type 0} (within free : Language Token V) (ts : List Token)
+    : Refusal → List Token → Type 0 where
+  syntax : {rest : List Token} → IsSyntax within free ts rest
+      → IsRefusedAt within free ts (syntax_refusal rest) rest
+  too_deep : {rest : List Token} → IsTooDeep within free ts rest
+      → IsRefusedAt within free ts TooDeep rest
 
 -- ---- of a term read alone
 
@@ -45,7 +48,8 @@ IsTermRefusal = IsRefusedAt term free_term
 
 -- ---- of a model
 
--- Where `rest` begins stands the part list of an import, whole, which doesn't end in `StandardLibrary` but in this part.
+-- Where `rest` begins is the part list of an import, whole, which doesn't end in `StandardLibrary`
+-- but in this part.
 pub record IsForeign (ts rest : List Token) (name : List ℕ) : Type 0 where
   pub front : List Token
   pub word : Token
@@ -62,17 +66,20 @@ pub record IsForeign (ts rest : List Token) (name : List ℕ) : Type 0 where
   pub named : name ≡ text_of (last_part given)
 
 pub data IsModelRefusedAt (ts : List Token) : Refusal → List Token → Type 0 where
-  at_token : {why : Refusal} {rest : List Token} → IsRefusedAt model free_model ts why rest → IsModelRefusedAt ts why rest
-  at_import : {name : List ℕ} {rest : List Token} → IsForeign ts rest name → IsModelRefusedAt ts (Unsupported name) rest
+  at_token : {why : Refusal} {rest : List Token} → IsRefusedAt model free_model ts why rest
+      → IsModelRefusedAt ts why rest
+  at_import : {name : List ℕ} {rest : List Token} → IsForeign ts rest name
+      → IsModelRefusedAt ts (Unsupported name) rest
 
 -- of all refusals the first in the text
 pub record IsModelRefusal (ts : List Token) (why : Refusal) (rest : List Token) : Type 0 where
   pub refused : IsModelRefusedAt ts why rest
-  pub first : (other : Refusal) (later : List Token) → IsModelRefusedAt ts other later → length later ≤ length rest
+  pub first : (other : Refusal) (later : List Token) → IsModelRefusedAt ts other later
+      → length later ≤ length rest
 
--- ---- places
+-- ---- offsets
 
--- the byte at which `rest` begins, in a text of so many bytes
-abbrev pub place_of : ℕ → List Token → ℕ
-place_of bytes [] = bytes
-place_of bytes (t ∷ rest) = t.span.start
+-- the byte at which `rest` begins, in a text of this many bytes
+abbrev pub offset_of : ℕ → List Token → ℕ
+offset_of bytes [] = bytes
+offset_of bytes (t ∷ rest) = t.span.start

@@ -5,7 +5,7 @@ use Rattle.asm_syntax.specs.declared.tree.TermTree.{TermTree}
 use Rattle.asm_syntax.specs.declared.tree.ModelTree.{ModelTree}
 use Rattle.asm_syntax.specs.Lexes.{Lexes, End}
 use Rattle.asm_syntax.specs.Grammar.{term, SpellsModel}
-use Rattle.asm_syntax.specs.Refusals.{Refusal, IsTermRefusal, IsModelRefusal, place_of}
+use Rattle.asm_syntax.specs.Refusals.{Refusal, IsTermRefusal, IsModelRefusal, offset_of}
 
 -- the most bytes of a text
 abbrev pub most_bytes : ℕ
@@ -24,14 +24,14 @@ pub record IsTerm (text : List ℕ) (tree : TermTree) : Type 0 where
   pub spells : term.Spells tree tokens
   pub short : length text ≤ most_bytes
 
--- the text is read to its end as tokens, and this is the first refusal of these and its place
+-- the text is read to its end as tokens, and this is the first refusal of these and its offset
 pub record IsRefusedModel (text : List ℕ) (why : Refusal) (at : ℕ) : Type 0 where
   pub tokens : List Token
   pub rest : List Token
   pub lexes : Lexes 0 text tokens End
   pub short : length text ≤ most_bytes
   pub refused : IsModelRefusal tokens why rest
-  pub there : at ≡ place_of (length text) rest
+  pub there : at ≡ offset_of (length text) rest
 
 pub record IsRefusedTerm (text : List ℕ) (why : Refusal) (at : ℕ) : Type 0 where
   pub tokens : List Token
@@ -39,4 +39,4 @@ pub record IsRefusedTerm (text : List ℕ) (why : Refusal) (at : ℕ) : Type 0 w
   pub lexes : Lexes 0 text tokens End
   pub short : length text ≤ most_bytes
   pub refused : IsTermRefusal tokens why rest
-  pub there : at ≡ place_of (length text) rest
+  pub there : at ≡ offset_of (length text) rest

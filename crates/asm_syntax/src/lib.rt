@@ -1,18 +1,16 @@
 //! Tokens, trees and the grammar of texts: what a text is, before it means anything.
 #![tactic(auto)]
 
-mod fault;
 mod places;
 mod spans;
-#[cfg(test)]
-mod tests;
 mod token;
+mod token_refusal;
 mod tree;
 
-pub use asm_base::{Boxed, List as Row, Text as Name};
-pub use fault::Fault;
+pub use asm_base::{Boxed, List, Text};
 pub use places::{LineColumn, place};
 pub use token::{Span, Token, TokenKind};
+pub use token_refusal::TokenRefusal;
 pub use tree::{
     BindTree, BindsTree, CaseTree, DeclTree, DefTree, DomainTree, InitTree, IntTree, ModelTree,
     ParamsTree, RangeTree, RangesTree, RuleCaseTree, RuleTree, StartTree, TermTree, TermsTree,

@@ -1,4 +1,4 @@
-//! Where trees stand in their text.
+//! Where trees are in their text.
 ghost use Rattle.std.specs.Prelude.{◌≡◌};
 ghost use Rattle.asm_syntax.specs.Extents.{extent, rule_extent, domain_extent, decl_extent, def_extent};
 
@@ -12,9 +12,9 @@ impl DomainTree {
         ensures { result ≡ domain_extent self.now }
     {
         match self {
-            DomainTree::Boolean(span)
-            | DomainTree::Integer(span)
-            | DomainTree::Natural(span)
+            DomainTree::Truth(span)
+            | DomainTree::Int(span)
+            | DomainTree::Nat(span)
             | DomainTree::Chars(span)
             | DomainTree::Named(_, span)
             | DomainTree::Prod(_, _, _, span)

@@ -1,10 +1,11 @@
-//! Tokens: what each is, and where it stands.
+//! Tokens: what each is, and where it is in its text.
 ghost use Rattle.std.specs.Prelude.{◌≡◌, IfOk};
+ghost use Rattle.asm_syntax.specs.Marks.{text_of};
 
-use asm_base::Text as Name;
+use asm_base::Text;
 use std::alloc::{AllocError, Global};
 
-/// A part of a text: the byte offset of its first byte, and of the one behind its last. Both count
+/// A part of a text: the byte offset of its first byte, and of the one after its last. Both count
 /// from the text's start.
 #[derive(Clone, Copy, Debug, PartialEq, Eq)]
 pub struct Span {
@@ -14,22 +15,22 @@ pub struct Span {
 
 /// What a token is. The name is the token's text: for a `Var` without its `$`, and for a string
 /// without its quotes.
-#[derive(Debug, Drop)]
+#[derive(Drop)]
 pub enum TokenKind {
     /// A letter or `_`, then letters, digits and `_`: no keyword and no refused word.
-    Id(Name),
-    /// The word behind a `$`. It may be a keyword or a refused word.
-    Var(Name),
+    Id(Text),
+    /// The word after a `$`. It may be a keyword or a refused word.
+    Var(Text),
     /// From 0 to 2^127 - 1. An `n` that marks the digits is part of the span.
     Number(i128),
-    /// The bytes between two quotes, as they stand there: there are no escapes.
-    Chars(Name),
+    /// The bytes between two quotes, unchanged: there are no escapes.
+    Chars(Text),
     /// A word that the grammar quotes.
-    Keyword(Name),
+    Keyword(Text),
     /// A word of the language's origin that this language leaves out.
-    Refused(Name),
+    Refused(Text),
     /// One or two bytes of punctuation.
-    Symbol(Name),
+    Symbol(Text),
 }
 
 impl TokenKind {
@@ -49,14 +50,29 @@ impl TokenKind {
     }
 }
 
-/// A token and where it stands in its text.
-#[derive(Debug, Drop)]
+/// A token and its place in the text.
+#[derive(Drop)]
 pub struct Token {
     pub kind: TokenKind,
     pub span: Span,
 }
 
 impl Token {
+    /// The token's text, in memory of its own: empty for a number. `AllocError` is want of memory.
+    pub fn text(&self, alloc: Global) -> Result<Text, AllocError>
+        ensures { IfOk result (λ text. text ≡ text_of self.now) }
+    {
+        match &self.kind {
+            TokenKind::Number(_) => Ok(Text::new(alloc)),
+            TokenKind::Id(text)
+            | TokenKind::Var(text)
+            | TokenKind::Chars(text)
+            | TokenKind::Keyword(text)
+            | TokenKind::Refused(text)
+            | TokenKind::Symbol(text) => text.copy(alloc),
+        }
+    }
+
     /// An equal token.
     pub fn copy(&self, alloc: Global) -> Result<Token, AllocError>
         ensures { IfOk result (λ token. token ≡ self.now) }
