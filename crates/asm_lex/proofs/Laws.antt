@@ -1,19 +1,19 @@
 -- From the function on lists to the relation.
 use Rattle.std.proofs.Common.{◌≡◌, ◌≢◌, ℕ, ◌+◌, ◌<◌, ◌≤◌, List, [], ◌∷◌, ◌++◌, length, drop, sym, refl, ap, ◌∙◌, subst, arith, append_assoc}
 use Rattle.std.specs.Prelude.{Result, Ok, Err, IfOk, IfErr}
-use Rattle.asm_syntax.specs.declared.fault.Fault.{Fault}
-use Rattle.asm_syntax.specs.declared.fault.Fault.TheVariants as faults
+use Rattle.asm_syntax.specs.declared.token_refusal.TokenRefusal.{TokenRefusal}
+use Rattle.asm_syntax.specs.declared.token_refusal.TokenRefusal.TheVariants as refusals
 use Rattle.asm_syntax.specs.declared.token.Token.{Token}
 use Rattle.asm_syntax.specs.declared.token.TokenKind.{TokenKind}
 use Rattle.asm_syntax.specs.Lexes.{Stop, End, At, Lexes, token_at}
-use Rattle.asm_lex_theory.specs.declared.Front.TheVariants.{Gap, Taken, Wrong}
+use Rattle.asm_lex_theory.specs.declared.Front.TheVariants.{Gap, Taken, Refusal}
 use Rattle.asm_lex_theory.specs.Scan.{front_on, Lexed, with_token, lexed_from, after_tokens}
 use Rattle.asm_lex_theory.proofs.Whole.{lexes_is, reads}
 use Rattle.asm_lex_theory.proofs.Places.{gap_at, token_next, refused_at, ended_at}
 use Rattle.asm_lex.specs.declared.LexRefusal.{LexRefusal}
 use Rattle.asm_lex.specs.declared.LexRefusal.TheVariants.{TextTooLong, BadByte, OpenComment, OpenString, NumberTooLarge, NoMemory}
 use Rattle.asm_syntax.specs.Texts.{most_bytes}
-use Rattle.asm_lex.specs.Answers.{AreTokens, HasNoTokens, StopsAt, IsFirst, IsRefusal, Answers, Tells, Gives}
+use Rattle.asm_lex.specs.Answers.{AreTokens, HasNoTokens, StopsAt, IsFirst, IsRefusal, Answers, IsRefusalOf, Gives}
 
 -- ---- steps of the loop
 
@@ -28,9 +28,9 @@ pub token_keeps : (text : List ℕ) (all : Lexed) (ts : List Token) (at n : ℕ)
     → all ≡ after_tokens (ts ++ token_at k at (at + n) ∷ []) (lexed_from (drop (at + n) text) 0 (at + n))
 token_keeps text all ts at n k e h f = e ∙ ap (after_tokens ts) (token_next text at n k h f) ∙ before_token ts _ _
 
-pub wrong_tells : (text : List ℕ) (all : Lexed) (ts : List Token) (at : ℕ) (f : Fault) (r : LexRefusal) → all ≡ after_tokens ts (lexed_from (drop at text) 0 at) → at < length text → Wrong f ≡ front_on (drop at text)
-    → Tells r (At f at) → Tells r all.1
-wrong_tells text all ts at f r e h w t = subst (Tells r) (sym (ap (λ (l : Lexed). l.1) (e ∙ ap (after_tokens ts) (refused_at text at f h w)))) t
+pub refusal_gives : (text : List ℕ) (all : Lexed) (ts : List Token) (at : ℕ) (f : TokenRefusal) (r : LexRefusal) → all ≡ after_tokens ts (lexed_from (drop at text) 0 at) → at < length text → Refusal f ≡ front_on (drop at text)
+    → IsRefusalOf r (At f at) → IsRefusalOf r all.1
+refusal_gives text all ts at f r e h w t = subst (IsRefusalOf r) (sym (ap (λ (l : Lexed). l.1) (e ∙ ap (after_tokens ts) (refused_at text at f h w)))) t
 
 pub end_gives : (text : List ℕ) (all : Lexed) (ts : List Token) (at : ℕ) → all ≡ after_tokens ts (lexed_from (drop at text) 0 at) → length text ≤ at → all ≡ (ts, End)
 end_gives text all ts at e h = e ∙ ap (after_tokens ts) (ended_at text at h) ∙ ap (λ (x : List Token). (x, End)) (nothing_more ts)
@@ -69,38 +69,38 @@ pub none_law : (text : List ℕ) (r : Result (List Token) LexRefusal) → ((ts :
 none_law text (Ok ts) only = tt
 none_law text (Err e) only = no_tokens text e only
 
--- the refusal of a fault
-abbrev pub refusal_of : Fault → ℕ → LexRefusal
-refusal_of faults.OpenComment at = OpenComment at
-refusal_of faults.OpenString at = OpenString at
-refusal_of faults.NumberTooLarge at = NumberTooLarge at
-refusal_of faults.BadByte at = BadByte at
+-- the refusal of a text that stops for this reason at this offset
+abbrev pub refusal_of : TokenRefusal → ℕ → LexRefusal
+refusal_of refusals.OpenComment at = OpenComment at
+refusal_of refusals.OpenString at = OpenString at
+refusal_of refusals.NumberTooLarge at = NumberTooLarge at
+refusal_of refusals.BadByte at = BadByte at
 
-fault_of : Stop → Fault
-fault_of End = faults.BadByte
-fault_of (At f at) = f
+why_of : Stop → TokenRefusal
+why_of End = refusals.BadByte
+why_of (At f at) = f
 
-place_of : Stop → ℕ
-place_of End = 0
-place_of (At f at) = at
+offset_of : Stop → ℕ
+offset_of End = 0
+offset_of (At f at) = at
 
-pub stop_law : (text : List ℕ) (r : Result (List Token) LexRefusal) (ts : List Token) (f : Fault) (at : ℕ) → Gives r (lexed_from text 0 0) → StopsAt text ts f at → Answers r (Err (refusal_of f at))
-unfolding fault_of place_of
+pub stop_law : (text : List ℕ) (r : Result (List Token) LexRefusal) (ts : List Token) (f : TokenRefusal) (at : ℕ) → Gives r (lexed_from text 0 0) → StopsAt text ts f at → Answers r (Err (refusal_of f at))
+unfolding why_of offset_of
 stop_law text (Ok us) ts f at g a = absurd (let e : At f at ≡ End = sym (ap (λ (x : Lexed). x.1) (lexes_is 0 text ts (At f at) a.1)) ∙ ap (λ (x : Lexed). x.1) g in cc)
 stop_law text (Err NoMemory) ts f at g a = tt
 stop_law text (Err (TextTooLong n)) ts f at g a = absurd g
-stop_law text (Err (BadByte n)) ts f at g a = let e = same_stop _ _ _ ts g (lexes_is 0 text ts (At f at) a.1) in ap (λ (s : Stop). Err (refusal_of (fault_of s) (place_of s))) e
-stop_law text (Err (OpenComment n)) ts f at g a = let e = same_stop _ _ _ ts g (lexes_is 0 text ts (At f at) a.1) in ap (λ (s : Stop). Err (refusal_of (fault_of s) (place_of s))) e
-stop_law text (Err (OpenString n)) ts f at g a = let e = same_stop _ _ _ ts g (lexes_is 0 text ts (At f at) a.1) in ap (λ (s : Stop). Err (refusal_of (fault_of s) (place_of s))) e
-stop_law text (Err (NumberTooLarge n)) ts f at g a = let e = same_stop _ _ _ ts g (lexes_is 0 text ts (At f at) a.1) in ap (λ (s : Stop). Err (refusal_of (fault_of s) (place_of s))) e
+stop_law text (Err (BadByte n)) ts f at g a = let e = same_stop _ _ _ ts g (lexes_is 0 text ts (At f at) a.1) in ap (λ (s : Stop). Err (refusal_of (why_of s) (offset_of s))) e
+stop_law text (Err (OpenComment n)) ts f at g a = let e = same_stop _ _ _ ts g (lexes_is 0 text ts (At f at) a.1) in ap (λ (s : Stop). Err (refusal_of (why_of s) (offset_of s))) e
+stop_law text (Err (OpenString n)) ts f at g a = let e = same_stop _ _ _ ts g (lexes_is 0 text ts (At f at) a.1) in ap (λ (s : Stop). Err (refusal_of (why_of s) (offset_of s))) e
+stop_law text (Err (NumberTooLarge n)) ts f at g a = let e = same_stop _ _ _ ts g (lexes_is 0 text ts (At f at) a.1) in ap (λ (s : Stop). Err (refusal_of (why_of s) (offset_of s))) e
 
 pub first_law : (text : List ℕ) (r : Result (List Token) LexRefusal) (ts : List Token) (e : LexRefusal) → length text ≤ most_bytes → Gives r (lexed_from text 0 0) → IsFirst text ts e → Answers r (Err e)
 first_law text r ts NoMemory h g a = absurd a
 first_law text r ts (TextTooLong n) h g a = absurd (let long = a.0 in omega arith)
-first_law text r ts (BadByte at) h g a = stop_law text r ts faults.BadByte at g a
-first_law text r ts (OpenComment at) h g a = stop_law text r ts faults.OpenComment at g a
-first_law text r ts (OpenString at) h g a = stop_law text r ts faults.OpenString at g a
-first_law text r ts (NumberTooLarge at) h g a = stop_law text r ts faults.NumberTooLarge at g a
+first_law text r ts (BadByte at) h g a = stop_law text r ts refusals.BadByte at g a
+first_law text r ts (OpenComment at) h g a = stop_law text r ts refusals.OpenComment at g a
+first_law text r ts (OpenString at) h g a = stop_law text r ts refusals.OpenString at g a
+first_law text r ts (NumberTooLarge at) h g a = stop_law text r ts refusals.NumberTooLarge at g a
 
 pub refused_law : (text : List ℕ) (r : Result (List Token) LexRefusal) → length text ≤ most_bytes → Gives r (lexed_from text 0 0) → IfErr r (λ e. IsRefusal text e)
 refused_law text (Ok ts) h g = tt

@@ -1,4 +1,4 @@
-//! What stands at a place of a text.
+//! What is at an offset of a text.
 ghost use Rattle.std.specs.Prelude.{◌≡◌, ℕ, ◌+◌, ◌-◌, ◌<◌, ◌≤◌, ◌∷◌, [], ◌==◌, true, false, length, take, drop, slice_index, IfOk};
 ghost use Rattle.std.specs.Str.{IsCharBoundary};
 ghost use Rattle.asm_syntax.specs.Bytes.{is_letter, is_digit};
@@ -6,23 +6,23 @@ ghost use Rattle.asm_syntax.specs.Lexes.{word_kind};
 ghost use Rattle.asm_lex_theory.specs.Scan.{block_front, block_len, front_on, token_here};
 
 use crate::runs::{self, Class};
+use crate::words::{is_keyword, is_refused, is_symbol};
 use asm_lex_theory::Front;
-use asm_syntax::{Fault, Name, TokenKind};
-use asm_words::{is_keyword, is_refused, is_symbol};
+use asm_syntax::{Text, TokenKind, TokenRefusal};
 use std::alloc::{AllocError, Global};
 
-/// What stands between two places.
-fn piece(alloc: Global, text: &str, from: usize, to: usize) -> Result<Name, AllocError>
+/// The bytes between two offsets.
+fn piece(alloc: Global, text: &str, from: usize, to: usize) -> Result<Text, AllocError>
     requires from { IsCharBoundary text.now from }
     requires to { IsCharBoundary text.now to }
     requires order { from ≤ to }
     ensures { IfOk result (λ n. n ≡ take (to - from) (drop from text.now)) }
 {
-    Name::from_str(alloc, &text[from..to])
+    Text::from_str(alloc, &text[from..to])
 }
 
 /// A word with its kind.
-fn word_kind(name: Name) -> TokenKind
+fn word_kind(name: Text) -> TokenKind
     ensures { result ≡ word_kind name }
 {
     if is_keyword(name.as_str().as_bytes()) {
@@ -53,7 +53,7 @@ fn number(bytes: &[u8], at: usize) -> Front
 {
     let len = runs::run(bytes, Class::Digit, at + 1) + 1;
     match runs::decimal(&bytes[at..at + len]) {
-        None => Front::Wrong(Fault::NumberTooLarge),
+        None => Front::Refusal(TokenRefusal::NumberTooLarge),
         Some(value) => {
             let marked = runs::marked(bytes, at + len);
             Front::Taken(TokenKind::Number(value), if marked { len + 1 } else { len })
@@ -61,7 +61,7 @@ fn number(bytes: &[u8], at: usize) -> Front
     }
 }
 
-/// A `$` with a word directly behind it.
+/// A `$` with a word directly after it.
 fn variable(alloc: Global, text: &str, at: usize) -> Result<Front, AllocError>
     requires within { at < length text.now }
     requires letter { is_letter (slice_index text.now at) ≡ false }
@@ -71,17 +71,17 @@ fn variable(alloc: Global, text: &str, at: usize) -> Result<Front, AllocError>
 {
     let bytes = text.as_bytes();
     if at + 1 == bytes.len() {
-        return Ok(Front::Wrong(Fault::BadByte));
+        return Ok(Front::Refusal(TokenRefusal::BadByte));
     }
     if !runs::is_letter(bytes[at + 1]) {
-        return Ok(Front::Wrong(Fault::BadByte));
+        return Ok(Front::Refusal(TokenRefusal::BadByte));
     }
     let len = runs::run(bytes, Class::Word, at + 2) + 1;
     let name = piece(alloc, text, at + 1, at + 1 + len)?;
     Ok(Front::Taken(TokenKind::Var(name), len + 1))
 }
 
-/// Two quotes, and what stands between them.
+/// Two quotes, and what is between them.
 fn string(alloc: Global, text: &str, at: usize) -> Result<Front, AllocError>
     requires within { at < length text.now }
     requires letter { is_letter (slice_index text.now at) ≡ false }
@@ -93,10 +93,10 @@ fn string(alloc: Global, text: &str, at: usize) -> Result<Front, AllocError>
     let bytes = text.as_bytes();
     let len = runs::run(bytes, Class::Chars, at + 1);
     if at + 1 + len == bytes.len() {
-        return Ok(Front::Wrong(Fault::OpenString));
+        return Ok(Front::Refusal(TokenRefusal::OpenString));
     }
     if bytes[at + 1 + len] != b'"' {
-        return Ok(Front::Wrong(Fault::OpenString));
+        return Ok(Front::Refusal(TokenRefusal::OpenString));
     }
     let name = piece(alloc, text, at + 1, at + 1 + len)?;
     Ok(Front::Taken(TokenKind::Chars(name), len + 2))
@@ -124,10 +124,10 @@ fn symbol(alloc: Global, text: &str, at: usize) -> Result<Front, AllocError>
         let name = piece(alloc, text, at, at + 1)?;
         return Ok(Front::Taken(TokenKind::Symbol(name), 1));
     }
-    Ok(Front::Wrong(Fault::BadByte))
+    Ok(Front::Refusal(TokenRefusal::BadByte))
 }
 
-/// The token at a place where no blank and no comment begins.
+/// The token at an offset where no blank and no comment begins.
 fn token(alloc: Global, text: &str, at: usize) -> Result<Front, AllocError>
     requires { at < length text.now }
     ensures { IfOk result (λ f. f ≡ token_here text.now at) }
@@ -149,7 +149,7 @@ fn token(alloc: Global, text: &str, at: usize) -> Result<Front, AllocError>
     symbol(alloc, text, at)
 }
 
-/// What stands at a place: a blank, a comment, the longest token, or a fault.
+/// What is at an offset: a blank, a comment, the longest token, or a refusal.
 pub(crate) fn front(alloc: Global, text: &str, at: usize) -> Result<Front, AllocError>
     requires { at < length text.now }
     ensures { IfOk result (λ f. f ≡ front_on (drop at text.now)) }
@@ -168,13 +168,13 @@ pub(crate) fn front(alloc: Global, text: &str, at: usize) -> Result<Front, Alloc
     token(alloc, text, at)
 }
 
-/// From a `/*` to the first `*/` behind it.
+/// From a `/*` to the first `*/` after it.
 fn comment(bytes: &[u8], at: usize) -> Front
     requires { at + 2 ≤ length bytes.now }
     ensures { result ≡ block_front (block_len (drop (at + 2) bytes.now)) }
 {
     match runs::block(bytes, at + 2) {
-        None => Front::Wrong(Fault::OpenComment),
+        None => Front::Refusal(TokenRefusal::OpenComment),
         Some(len) => Front::Gap(len + 2),
     }
 }

@@ -1,4 +1,4 @@
-//! Runs of bytes at a place.
+//! Runs of bytes at an offset.
 ghost use Rattle.std.specs.Prelude.{IsTrue, ◌≡◌, ℕ, ◌+◌, ◌<◌, ◌≤◌, ◌∷◌, [], length, drop, slice_index, IfSome};
 ghost use Rattle.std.specs.List.{prefix_len};
 ghost use Rattle.asm_syntax.specs.Bytes.{is_letter, is_digit, is_blank, starts_with, value_of};
@@ -11,7 +11,7 @@ pub(crate) enum Class {
     /// Letters, digits and `_`.
     Word,
     Digit,
-    /// What may stand between the quotes of a string.
+    /// What is allowed between the quotes of a string.
     Chars,
     /// All but a line feed.
     Line,
@@ -47,7 +47,7 @@ fn passes(class: Class, byte: u8) -> bool
     }
 }
 
-/// How many bytes of the class stand from a place on.
+/// How many bytes of the class follow one another from an offset on.
 pub(crate) fn run(bytes: &[u8], class: Class, from: usize) -> usize
     requires { from ≤ length bytes.now }
     ensures len { result ≡ prefix_len (test_of class) (drop from bytes.now) }
@@ -63,7 +63,7 @@ pub(crate) fn run(bytes: &[u8], class: Class, from: usize) -> usize
     end - from
 }
 
-/// Whether these two bytes stand at a place.
+/// Whether these two bytes are at an offset.
 pub(crate) fn begins(bytes: &[u8], at: usize, first: u8, second: u8) -> bool
     requires { at < length bytes.now }
     ensures value { result ≡ starts_with (first ∷ second ∷ []) (slice_index bytes.now at ∷ drop (at + 1) bytes.now) }
@@ -72,7 +72,7 @@ pub(crate) fn begins(bytes: &[u8], at: usize, first: u8, second: u8) -> bool
     first == bytes[at] && at + 1 < bytes.len() && second == bytes[at + 1]
 }
 
-/// How many bytes come up to the end of the first `*/` from a place on.
+/// How many bytes there are from an offset to the end of the first `*/` after it.
 pub(crate) fn block(bytes: &[u8], from: usize) -> Option<usize>
     requires { from ≤ length bytes.now }
     ensures value { result ≡ block_len (drop from bytes.now) }
@@ -103,7 +103,7 @@ pub(crate) fn decimal(digits: &[u8]) -> Option<i128>
     Some(value as i128)
 }
 
-/// Whether the `n` at a place belongs to the digits before it.
+/// Whether the `n` at an offset belongs to the digits before it.
 pub(crate) fn marked(bytes: &[u8], at: usize) -> bool
     requires { at ≤ length bytes.now }
     ensures { result ≡ is_mark (drop at bytes.now) }

@@ -1,4 +1,4 @@
--- The cases of what stands at a place.
+-- What is at an offset of a text, case by case.
 use Rattle.std.proofs.Common.{◌≡◌, ℕ, zero, suc, ◌+◌, ◌-◌, ◌^◌, ◌<◌, ◌≤◌, Bool, true, false, List, [], ◌∷◌, length, take, drop, get_or, sym, refl, ap, ◌∙◌, subst, arith, get_or-drop}
 use Rattle.std.specs.Prelude.{cond, codes, Some, None, ℤ, pos, ◌==◌, ◌&&◌, nat_lt}
 use Rattle.std.specs.List.{prefix_len}
@@ -9,11 +9,11 @@ use Rattle.std.proofs.lemmas.Str.{IsCharBoundary-after_ascii}
 use Rattle.asm_syntax.specs.Bytes.{is_letter, is_digit, is_word_byte, is_blank, is_string_byte, is_line_byte, starts_with, value_of}
 use Rattle.asm_syntax.specs.Words.{is_among, symbols, keywords, refused_words}
 use Rattle.asm_syntax.specs.Lexes.{word_kind}
-use Rattle.asm_syntax.specs.declared.fault.Fault.TheVariants.{OpenString, NumberTooLarge, BadByte}
+use Rattle.asm_syntax.specs.declared.token_refusal.TokenRefusal.TheVariants.{OpenString, NumberTooLarge, BadByte}
 use Rattle.asm_syntax.specs.declared.token.TokenKind.{TokenKind}
 use Rattle.asm_syntax.specs.declared.token.TokenKind.TheVariants.{Var, Number, Chars, Symbol}
 use Rattle.asm_lex_theory.specs.declared.Front.{Front}
-use Rattle.asm_lex_theory.specs.declared.Front.TheVariants.{Gap, Taken, Wrong}
+use Rattle.asm_lex_theory.specs.declared.Front.TheVariants.{Gap, Taken, Refusal}
 use Rattle.asm_lex_theory.specs.Scan.{block_len, block_front, word_len, is_mark, Form, variable_form, digits_form, string_form, short_symbol, symbol_form, token_form, fits, token_front, front_of, front_on, token_here}
 use Rattle.asm_lex_theory.proofs.Lists.{by_cond, by_true, by_false, among_pass, digit_no_letter, and_both}
 use Rattle.asm_lex_theory.proofs.Places.{cons_at, drop_out}
@@ -95,14 +95,14 @@ number_here bs at len n m h e l v s q =
     below n s = grind (arith, nat_tests)
 
 pub large_here : (bs : List ℕ) (at len : ℕ) → at < length bs → is_digit (get_or bs at 0) ≡ true → len ≡ prefix_len is_digit (drop (at + 1) bs) + 1
-    → 2 ^ 127 ≤ value_of (take len (drop at bs)) → Wrong NumberTooLarge ≡ token_here bs at
+    → 2 ^ 127 ≤ value_of (take len (drop at bs)) → Refusal NumberTooLarge ≡ token_here bs at
 unfolding token_front
 large_here bs at len h e l s =
     let b = get_or bs at 0 in
     let rest = drop (at + 1) bs in
     let dl = prefix_len is_digit rest + 1 in
     let number : value_of (take len (drop at bs)) ≡ value_of (take dl (b ∷ rest)) = ap (λ x. value_of (take x (drop at bs))) l ∙ ap (λ x. value_of (take dl x)) (cons_at bs at h) in
-    sym (by_false (λ (f : Front). f ≡ Wrong NumberTooLarge) (nat_lt (value_of (take dl (b ∷ rest))) (2 ^ 127)) _ _ (ap (λ x. nat_lt x (2 ^ 127)) (sym number) ∙ above _ s) refl)
+    sym (by_false (λ (f : Front). f ≡ Refusal NumberTooLarge) (nat_lt (value_of (take dl (b ∷ rest))) (2 ^ 127)) _ _ (ap (λ x. nat_lt x (2 ^ 127)) (sym number) ∙ above _ s) refl)
     ∙ digits_here bs at e
   where
     above : (n : ℕ) → 2 ^ 127 ≤ n → nat_lt n (2 ^ 127) ≡ false
@@ -157,19 +157,19 @@ variable_here bs at e g q h l =
     let f : Form = Some (Var (take n (drop (at + 1) bs)), n + 1) in
     variable_is bs at f e g q (ap variable_form c ∙ by_true (λ (x : Form). x ≡ f) (is_letter (get_or bs (at + 1) 0)) _ _ l (ap (λ v. Some (Var (take n v), n + 1)) (sym c)))
 
-bad_front : (b : ℕ) → (b == 34) ≡ false → Wrong BadByte ≡ token_front b None
+bad_front : (b : ℕ) → (b == 34) ≡ false → Refusal BadByte ≡ token_front b None
 unfolding token_front
-bad_front b e = sym (by_false (λ (x : Front). x ≡ Wrong BadByte) (b == 34) _ _ e refl)
+bad_front b e = sym (by_false (λ (x : Front). x ≡ Refusal BadByte) (b == 34) _ _ e refl)
 
 pub no_variable_end : (bs : List ℕ) (at : ℕ) → is_letter (get_or bs at 0) ≡ false → is_digit (get_or bs at 0) ≡ false → (get_or bs at 0 == 36) ≡ true
-    → length bs ≤ at + 1 → Wrong BadByte ≡ token_here bs at
+    → length bs ≤ at + 1 → Refusal BadByte ≡ token_here bs at
 no_variable_end bs at e g q h = bad_front (get_or bs at 0) (not_quote _ q) ∙ variable_is bs at None e g q (ap variable_form (drop_out bs (at + 1) h))
   where
     not_quote : (b : ℕ) → (b == 36) ≡ true → (b == 34) ≡ false
     not_quote b q = grind (arith, nat_tests)
 
 pub no_variable : (bs : List ℕ) (at : ℕ) → is_letter (get_or bs at 0) ≡ false → is_digit (get_or bs at 0) ≡ false → (get_or bs at 0 == 36) ≡ true
-    → at + 1 < length bs → is_letter (get_or bs (at + 1) 0) ≡ false → Wrong BadByte ≡ token_here bs at
+    → at + 1 < length bs → is_letter (get_or bs (at + 1) 0) ≡ false → Refusal BadByte ≡ token_here bs at
 no_variable bs at e g q h l = bad_front (get_or bs at 0) (not_quote _ q) ∙ variable_is bs at None e g q (ap variable_form (cons_at bs (at + 1) h) ∙ by_false (λ (x : Form). x ≡ None) (is_letter (get_or bs (at + 1) 0)) _ _ l refl)
   where
     not_quote : (b : ℕ) → (b == 36) ≡ true → (b == 34) ≡ false
@@ -196,12 +196,12 @@ string_here bs at len e g q r l h c =
     closes : (b : ℕ) (after : List ℕ) → (b == 34) ≡ true → starts_with (codes "\"") (b ∷ after) ≡ true
     closes b after c = grind (arith, nat_tests)
 
-open_front : (b : ℕ) → (b == 34) ≡ true → Wrong OpenString ≡ token_front b None
+open_front : (b : ℕ) → (b == 34) ≡ true → Refusal OpenString ≡ token_front b None
 unfolding token_front
-open_front b e = sym (by_true (λ (x : Front). x ≡ Wrong OpenString) (b == 34) _ _ e refl)
+open_front b e = sym (by_true (λ (x : Front). x ≡ Refusal OpenString) (b == 34) _ _ e refl)
 
 pub open_end : (bs : List ℕ) (at len : ℕ) → is_letter (get_or bs at 0) ≡ false → is_digit (get_or bs at 0) ≡ false → (get_or bs at 0 == 36) ≡ false → (get_or bs at 0 == 34) ≡ true
-    → len ≡ prefix_len is_string_byte (drop (at + 1) bs) → length bs ≤ at + 1 + len → Wrong OpenString ≡ token_here bs at
+    → len ≡ prefix_len is_string_byte (drop (at + 1) bs) → length bs ≤ at + 1 + len → Refusal OpenString ≡ token_here bs at
 open_end bs at len e g q r l h =
     let rest = drop (at + 1) bs in
     let n = prefix_len is_string_byte rest in
@@ -209,7 +209,7 @@ open_end bs at len e g q r l h =
     open_front _ r ∙ string_is bs at None e g q r (by_false (λ (x : Form). x ≡ None) (starts_with (codes "\"") (drop n rest)) _ _ (ap (starts_with (codes "\"")) d) refl)
 
 pub open_byte : (bs : List ℕ) (at len : ℕ) → is_letter (get_or bs at 0) ≡ false → is_digit (get_or bs at 0) ≡ false → (get_or bs at 0 == 36) ≡ false → (get_or bs at 0 == 34) ≡ true
-    → len ≡ prefix_len is_string_byte (drop (at + 1) bs) → at + 1 + len < length bs → (get_or bs (at + 1 + len) 0 == 34) ≡ false → Wrong OpenString ≡ token_here bs at
+    → len ≡ prefix_len is_string_byte (drop (at + 1) bs) → at + 1 + len < length bs → (get_or bs (at + 1 + len) 0 == 34) ≡ false → Refusal OpenString ≡ token_here bs at
 open_byte bs at len e g q r l h c =
     let rest = drop (at + 1) bs in
     let n = prefix_len is_string_byte rest in
@@ -227,13 +227,13 @@ symbol_is bs at f e g q r v =
 
 -- what a symbol of one byte gives
 abbrev pub short_front : ℕ → Front
-short_front b = cond (is_among symbols (b ∷ [])) (Taken (Symbol (b ∷ [])) 1) (Wrong BadByte)
+short_front b = cond (is_among symbols (b ∷ [])) (Taken (Symbol (b ∷ [])) 1) (Refusal BadByte)
 
 short_is : (b : ℕ) → (b == 34) ≡ false → short_front b ≡ token_front b (short_symbol b)
 unfolding token_front
 short_is b r = go (is_among symbols (b ∷ []))
   where
-    go : (v : Bool) → cond v (Taken (Symbol (b ∷ [])) 1) (Wrong BadByte) ≡ token_front b (cond v (Some (Symbol (b ∷ []), 1)) None)
+    go : (v : Bool) → cond v (Taken (Symbol (b ∷ [])) 1) (Refusal BadByte) ≡ token_front b (cond v (Some (Symbol (b ∷ []), 1)) None)
     go true = refl
     go false = bad_front b r
 
@@ -297,8 +297,8 @@ symbol_long_done bs at name e g q r h m n = ap (λ x. Taken (Symbol x) 2) (n ∙
 pub symbol_one : (bs : List ℕ) (at : ℕ) (name : List ℕ) → at < length bs → is_among symbols (get_or bs at 0 ∷ []) ≡ true → name ≡ take (at + 1 - at) (drop at bs) → Taken (Symbol name) 1 ≡ short_front (get_or bs at 0)
 symbol_one bs at name h m n = ap (λ x. Taken (Symbol x) 1) (n ∙ one_taken bs at h) ∙ sym (by_true (λ (f : Front). f ≡ Taken (Symbol (get_or bs at 0 ∷ [])) 1) (is_among symbols (get_or bs at 0 ∷ [])) _ _ m refl)
 
-pub symbol_bad : (b : ℕ) → is_among symbols (b ∷ []) ≡ false → Wrong BadByte ≡ short_front b
-symbol_bad b m = sym (by_false (λ (f : Front). f ≡ Wrong BadByte) (is_among symbols (b ∷ [])) _ _ m refl)
+pub symbol_bad : (b : ℕ) → is_among symbols (b ∷ []) ≡ false → Refusal BadByte ≡ short_front b
+symbol_bad b m = sym (by_false (λ (f : Front). f ≡ Refusal BadByte) (is_among symbols (b ∷ [])) _ _ m refl)
 
 -- ---- symbols are ASCII
 
@@ -312,14 +312,14 @@ symbol_ascii c m = among_pass all_ascii symbols c refl m
 ascii_is : (b : ℕ) → nat_lt b 128 ≡ true → b < 128
 ascii_is b h = grind (arith, nat_tests)
 
-pub cut_behind_two : (bs : List ℕ) (at : ℕ) → IsUtf8 bs → at + 1 < length bs → is_among symbols (get_or bs at 0 ∷ get_or bs (at + 1) 0 ∷ []) ≡ true → IsCharBoundary bs (at + 2)
-cut_behind_two bs at u h m =
+pub cut_after_two : (bs : List ℕ) (at : ℕ) → IsUtf8 bs → at + 1 < length bs → is_among symbols (get_or bs at 0 ∷ get_or bs (at + 1) 0 ∷ []) ≡ true → IsCharBoundary bs (at + 2)
+cut_after_two bs at u h m =
     let a = and_both (nat_lt (get_or bs at 0) 128) (nat_lt (get_or bs (at + 1) 0) 128 && true) (symbol_ascii (get_or bs at 0 ∷ get_or bs (at + 1) 0 ∷ []) m) in
     let b = and_both (nat_lt (get_or bs (at + 1) 0) 128) true a.1 in
     subst (IsCharBoundary bs) (omega arith) (IsCharBoundary-after_ascii bs (at + 1) u h (ascii_is _ b.0))
 
-pub cut_behind_one : (bs : List ℕ) (at : ℕ) → IsUtf8 bs → at < length bs → is_among symbols (get_or bs at 0 ∷ []) ≡ true → IsCharBoundary bs (at + 1)
-cut_behind_one bs at u h m =
+pub cut_after_one : (bs : List ℕ) (at : ℕ) → IsUtf8 bs → at < length bs → is_among symbols (get_or bs at 0 ∷ []) ≡ true → IsCharBoundary bs (at + 1)
+cut_after_one bs at u h m =
     let a = and_both (nat_lt (get_or bs at 0) 128) true (symbol_ascii (get_or bs at 0 ∷ []) m) in IsCharBoundary-after_ascii bs at u h (ascii_is _ a.0)
 
 pub number_done : (bs : List ℕ) (at len out : ℕ) (z : ℤ) (m : Bool) → at < length bs → is_digit (get_or bs at 0) ≡ true → len ≡ prefix_len is_digit (drop (at + 1) bs)
@@ -330,7 +330,7 @@ number_done bs at len out z m h e l v s q o =
     ∙ number_here bs at (len + 1) (value_of (take (at + (len + 1) - at) (drop at bs))) m h e (omega arith) (ap (λ x. value_of (take x (drop at bs))) (omega arith)) s q
 
 pub large_done : (bs : List ℕ) (at len : ℕ) → at < length bs → is_digit (get_or bs at 0) ≡ true → len ≡ prefix_len is_digit (drop (at + 1) bs)
-    → 2 ^ 127 ≤ value_of (take (at + (len + 1) - at) (drop at bs)) → Wrong NumberTooLarge ≡ token_here bs at
+    → 2 ^ 127 ≤ value_of (take (at + (len + 1) - at) (drop at bs)) → Refusal NumberTooLarge ≡ token_here bs at
 large_done bs at len h e l s =
     let same : value_of (take (at + (len + 1) - at) (drop at bs)) ≡ value_of (take (len + 1) (drop at bs)) = ap (λ x. value_of (take x (drop at bs))) (omega arith) in
     large_here bs at (len + 1) h e (omega arith) (subst (λ (x : ℕ). 2 ^ 127 ≤ x) same s)

@@ -210,8 +210,8 @@ form_longest bs k n e =
       l,
       record {
         token = s.4;
-        longest = λ other behind j f t.
-            let o = subst (Offers (length other) j) (ap form_of (sym f ∙ sym s.2) ∙ e) (offers other behind j t) in
+        longest = λ other left j f t.
+            let o = subst (Offers (length other) j) (ap form_of (sym f ∙ sym s.2) ∙ e) (offers other left j t) in
             let o0 : length other ≤ n = o.0 in omega arith;
       },
     )

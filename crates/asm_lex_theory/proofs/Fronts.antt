@@ -1,4 +1,4 @@
--- What stands at the front of a text.
+-- What is at the front of a text.
 use Rattle.std.proofs.Common.{◌≡◌, ℕ, ◌+◌, ◌^◌, ◌≤◌, Bool, true, false, List, [], ◌∷◌, ◌++◌, length, drop, sym, refl, ap, ◌∙◌, subst, arith, append_assoc, length-append}
 use Rattle.std.specs.Prelude.{cond, ◌==◌, codes, Option, Some, None, pos, negsuc}
 use Rattle.std.specs.Option.{option_map}
@@ -8,23 +8,24 @@ use Rattle.asm_syntax.specs.Bytes.{is_blank, is_string_byte, is_line_byte, start
 use Rattle.asm_syntax.specs.Lexes.{HasNoEnd, IsGap, blank, line, block, begins_comment, begins_gap, IsToken, IsLongest, Fits, Refuses, open_comment, open_string, too_large, bad_byte}
 use Rattle.asm_syntax.specs.declared.token.TokenKind.{TokenKind}
 use Rattle.asm_syntax.specs.declared.token.TokenKind.TheVariants.{Id, Var, Number, Chars, Keyword, Refused, Symbol}
-use Rattle.asm_syntax.specs.declared.fault.Fault.{Fault}
-use Rattle.asm_syntax.specs.declared.fault.Fault.TheVariants.{OpenString, NumberTooLarge, BadByte}
+use Rattle.asm_syntax.specs.declared.token_refusal.TokenRefusal.{TokenRefusal}
+use Rattle.asm_syntax.specs.declared.token_refusal.TokenRefusal.TheVariants.{OpenString, NumberTooLarge, BadByte}
 use Rattle.asm_lex_theory.specs.declared.Front.{Front}
-use Rattle.asm_lex_theory.specs.declared.Front.TheVariants.{Gap, Taken, Wrong}
+use Rattle.asm_lex_theory.specs.declared.Front.TheVariants.{Gap, Taken, Refusal}
 use Rattle.asm_lex_theory.specs.Scan.{block_len, block_front, Form, token_form, fits, token_front, front_of, front_on}
 use Rattle.asm_lex_theory.proofs.Lists.{by_cond, by_true, by_false, split, prefix_is, dropped, and_false, or_neither, or_none, eq_is, starts_two}
 use Rattle.asm_lex_theory.proofs.Forms.{form_of, longest_form, form_longest, form_none}
 
-abbrev pub Stands : List ℕ → Front → Type 0
-Stands bs (Gap n) = (a c : List ℕ) × (bs ≡ a ++ c) × (n ≡ length a) × IsGap a c
-Stands bs (Taken k n) = (a c : List ℕ) × (bs ≡ a ++ c) × (n ≡ length a) × (begins_gap bs ≡ false) × IsLongest a c k × Fits k
-Stands bs (Wrong f) = Refuses bs f
+-- the front is a gap, the longest token or a refusal, as the definition has them
+abbrev pub IsFront : List ℕ → Front → Type 0
+IsFront bs (Gap n) = (a c : List ℕ) × (bs ≡ a ++ c) × (n ≡ length a) × IsGap a c
+IsFront bs (Taken k n) = (a c : List ℕ) × (bs ≡ a ++ c) × (n ≡ length a) × (begins_gap bs ≡ false) × IsLongest a c k × Fits k
+IsFront bs (Refusal f) = Refuses bs f
 
 -- ---- comments
 
-line_stands : (bs : List ℕ) → Stands (codes "//" ++ bs) (Gap (prefix_len is_line_byte bs + 2))
-line_stands bs =
+line_is_front : (bs : List ℕ) → IsFront (codes "//" ++ bs) (Gap (prefix_len is_line_byte bs + 2))
+line_is_front bs =
     let s = split is_line_byte bs in
     let n = s.len in
     (codes "//" ++ s.front, s.back, ap (λ x. codes "//" ++ x) s.parts, omega arith, line s.front s.all s.stops)
@@ -33,7 +34,7 @@ abbrev pub Block : List ℕ → Option ℕ → Type 0
 Block bs None = HasNoEnd bs
 Block bs (Some n) = (a after : List ℕ) × (bs ≡ a ++ 42 ∷ 47 ∷ after) × (n ≡ length a + 2) × HasNoEnd (a ++ codes "*")
 
--- whether the end stands here doesn't depend on what is behind
+-- whether the end is here doesn't depend on what follows it
 no_end_here : (b : ℕ) (a after : List ℕ) → starts_with (codes "*/") (b ∷ (a ++ 42 ∷ 47 ∷ after)) ≡ false → starts_with (codes "*/") (b ∷ (a ++ codes "*")) ≡ false
 no_end_here b [] after h = and_false (42 == b)
 no_end_here b (y ∷ a) after h = h
@@ -56,11 +57,11 @@ block_is (b ∷ bs) =
     (λ h. let e = starts_two 42 47 (b ∷ bs) h in ([], e.0, e.1, refl, (refl, tt)))
     (λ h. block_step b bs (block_len bs) h (block_is bs))
 
-block_stands : (bs : List ℕ) → Stands (codes "/*" ++ bs) (block_front (block_len bs))
+block_is_front : (bs : List ℕ) → IsFront (codes "/*" ++ bs) (block_front (block_len bs))
 unfolding block_len
-block_stands bs = go (block_len bs) (block_is bs)
+block_is_front bs = go (block_len bs) (block_is bs)
   where
-    go : (o : Option ℕ) → Block bs o → Stands (codes "/*" ++ bs) (block_front o)
+    go : (o : Option ℕ) → Block bs o → IsFront (codes "/*" ++ bs) (block_front o)
     go None k = open_comment bs k
     go (Some n) k =
         let l : n ≡ length k.0 + 2 = k.3 in
@@ -117,9 +118,9 @@ large_false n h = grind (arith, nat_tests)
 
 -- ---- tokens
 
-open_stands : (rest : List ℕ) → token_form 34 rest ≡ None → Refuses (34 ∷ rest) OpenString
+open_is_refused : (rest : List ℕ) → token_form 34 rest ≡ None → Refuses (34 ∷ rest) OpenString
 unfolding front_of token_front token_form block_len
-open_stands rest e =
+open_is_refused rest e =
     let s = split is_string_byte rest in
     let len = prefix_len is_string_byte rest in
     subst (λ (x : List ℕ). Refuses (34 ∷ x) OpenString) (sym s.parts) (open_string s.front s.back s.all s.stops
@@ -129,29 +130,29 @@ open_stands rest e =
     closed false f e = refl
     closed true f e = absurd (cc)
 
-token_stands : (b : ℕ) (rest : List ℕ) → begins_gap (b ∷ rest) ≡ false → Stands (b ∷ rest) (token_front b (token_form b rest))
+token_is_front : (b : ℕ) (rest : List ℕ) → begins_gap (b ∷ rest) ≡ false → IsFront (b ∷ rest) (token_front b (token_form b rest))
 unfolding front_of token_front token_form block_len
-token_stands b rest g = go (token_form b rest) refl
+token_is_front b rest g = go (token_form b rest) refl
   where
-    go : (f : Form) → token_form b rest ≡ f → Stands (b ∷ rest) (token_front b f)
-    go None e = by_cond (Stands (b ∷ rest)) (b == 34) _ _
-        (λ h. let q = eq_is b 34 h in subst (λ (x : ℕ). Refuses (x ∷ rest) OpenString) (sym q) (open_stands rest (ap (λ x. token_form x rest) (sym q) ∙ e)))
+    go : (f : Form) → token_form b rest ≡ f → IsFront (b ∷ rest) (token_front b f)
+    go None e = by_cond (IsFront (b ∷ rest)) (b == 34) _ _
+        (λ h. let q = eq_is b 34 h in subst (λ (x : ℕ). Refuses (x ∷ rest) OpenString) (sym q) (open_is_refused rest (ap (λ x. token_form x rest) (sym q) ∙ e)))
         (λ h. bad_byte g h (form_none (b ∷ rest) e))
     go (Some (k, n)) e =
         let l = form_longest (b ∷ rest) k n e in
-        by_cond (Stands (b ∷ rest)) (fits k) _ _
+        by_cond (IsFront (b ∷ rest)) (fits k) _ _
         (λ h. (l.0, l.1, l.2, l.3, g, l.4, fits_is k h))
         (λ h. let big = large_is k h in too_large l.2 g (subst (IsLongest l.0 l.1) big.1 l.4) big.2)
 
-pub front_stands : (b : ℕ) (rest : List ℕ) → Stands (b ∷ rest) (front_of b rest)
+pub is_front : (b : ℕ) (rest : List ℕ) → IsFront (b ∷ rest) (front_of b rest)
 unfolding front_of token_front token_form block_len
-front_stands b rest =
-    by_cond (Stands (b ∷ rest)) (is_blank b) _ _ (λ h. (b ∷ [], rest, refl, refl, blank h)) (λ i.
-    by_cond (Stands (b ∷ rest)) (starts_with (codes "//") (b ∷ rest)) _ _
-    (λ h. let e = starts_two 47 47 (b ∷ rest) h in subst (λ (x : List ℕ). Stands x (Gap (prefix_len is_line_byte (drop 2 x) + 2))) (sym e.1) (line_stands e.0)) (λ j.
-    by_cond (Stands (b ∷ rest)) (starts_with (codes "/*") (b ∷ rest)) _ _
-    (λ h. let e = starts_two 47 42 (b ∷ rest) h in subst (λ (x : List ℕ). Stands x (block_front (block_len (drop 2 x)))) (sym e.1) (block_stands e.0)) (λ k.
-    token_stands b rest (or_none _ _ i (or_none _ _ j k)))))
+is_front b rest =
+    by_cond (IsFront (b ∷ rest)) (is_blank b) _ _ (λ h. (b ∷ [], rest, refl, refl, blank h)) (λ i.
+    by_cond (IsFront (b ∷ rest)) (starts_with (codes "//") (b ∷ rest)) _ _
+    (λ h. let e = starts_two 47 47 (b ∷ rest) h in subst (λ (x : List ℕ). IsFront x (Gap (prefix_len is_line_byte (drop 2 x) + 2))) (sym e.1) (line_is_front e.0)) (λ j.
+    by_cond (IsFront (b ∷ rest)) (starts_with (codes "/*") (b ∷ rest)) _ _
+    (λ h. let e = starts_two 47 42 (b ∷ rest) h in subst (λ (x : List ℕ). IsFront x (block_front (block_len (drop 2 x)))) (sym e.1) (block_is_front e.0)) (λ k.
+    token_is_front b rest (or_none _ _ i (or_none _ _ j k)))))
 
 -- ---- there is no other front
 
@@ -174,7 +175,7 @@ no_gap_front (x ∷ xs) g b rest e =
     ∙ ap (λ v. front_form v) e
   where
     front_form : List ℕ → Front
-    front_form [] = Wrong BadByte
+    front_form [] = Refusal BadByte
     front_form (b ∷ rest) = token_front b (token_form b rest)
 
 pub taken_front : (bs : List ℕ) (k : TokenKind) (n : ℕ) → begins_gap bs ≡ false → form_of bs ≡ Some (k, n) → Fits k → front_on bs ≡ Taken k n
@@ -183,11 +184,11 @@ taken_front [] k n g e h = absurd (cc)
 taken_front (b ∷ rest) k n g e h =
     no_gap_front (b ∷ rest) g b rest refl ∙ ap (token_front b) e ∙ by_true (λ (f : Front). f ≡ Taken k n) (fits k) _ _ (fits_true k h) refl
 
-large_front : (bs : List ℕ) (m n : ℕ) → begins_gap bs ≡ false → form_of bs ≡ Some (Number (pos m), n) → 2 ^ 127 ≤ m → front_on bs ≡ Wrong NumberTooLarge
+large_front : (bs : List ℕ) (m n : ℕ) → begins_gap bs ≡ false → form_of bs ≡ Some (Number (pos m), n) → 2 ^ 127 ≤ m → front_on bs ≡ Refusal NumberTooLarge
 unfolding front_of token_front token_form block_len
 large_front [] m n g e h = absurd (cc)
 large_front (b ∷ rest) m n g e h =
-    no_gap_front (b ∷ rest) g b rest refl ∙ ap (token_front b) e ∙ by_false (λ (f : Front). f ≡ Wrong NumberTooLarge) (fits (Number (pos m))) _ _ (large_false m h) refl
+    no_gap_front (b ∷ rest) g b rest refl ∙ ap (token_front b) e ∙ by_false (λ (f : Front). f ≡ Refusal NumberTooLarge) (fits (Number (pos m))) _ _ (large_false m h) refl
 
 no_form : (bs : List ℕ) → ((front after : List ℕ) (k : TokenKind) → bs ≡ front ++ after → IsToken front after k → ⊥) → form_of bs ≡ None
 no_form bs none = go (form_of bs) refl
@@ -196,7 +197,7 @@ no_form bs none = go (form_of bs) refl
     go None e = e
     go (Some (k, n)) e = let l = form_longest bs k n e in absurd (none l.0 l.1 k l.2 l.4.token)
 
-pub refuse_front : (bs : List ℕ) (f : Fault) → Refuses bs f → front_on bs ≡ Wrong f
+pub refuse_front : (bs : List ℕ) (f : TokenRefusal) → Refuses bs f → front_on bs ≡ Refusal f
 unfolding front_of token_front token_form block_len
 refuse_front bs f (open_comment a h) = ap block_front (block_none a h)
 refuse_front bs f (open_string a b h s q) =
@@ -206,4 +207,4 @@ refuse_front bs f (open_string a b h s q) =
     (ap (starts_with (codes "\"")) (dropped (a ++ b) a b len refl n) ∙ q) refl)
 refuse_front bs f (too_large {a = a} {b = c} {n = n} e g l le) = large_front bs n (length a) g (ap form_of e ∙ longest_form a c (Number (pos n)) l) le
 refuse_front bs f (bad_byte {b = b} {bs = rest} g q none) =
-    no_gap_front (b ∷ rest) g b rest refl ∙ ap (token_front b) (no_form (b ∷ rest) none) ∙ by_false (λ (v : Front). v ≡ Wrong BadByte) (b == 34) _ _ q refl
+    no_gap_front (b ∷ rest) g b rest refl ∙ ap (token_front b) (no_form (b ∷ rest) none) ∙ by_false (λ (v : Front). v ≡ Refusal BadByte) (b == 34) _ _ q refl

@@ -1,17 +1,17 @@
--- What stands at a place of a text.
+-- What is at an offset of a text.
 use Rattle.std.proofs.Common.{◌≡◌, ℕ, zero, suc, ◌+◌, ◌-◌, ◌*◌, ◌^◌, ◌<◌, ◌≤◌, true, false, List, [], ◌∷◌, ◌++◌, length, take, drop, get_or, sym, refl, ap, ◌∙◌, subst, arith, length-append, length-drop, add-one, drop-cons}
 use Rattle.std.specs.Prelude.{codes, Option, Some, None, fold}
 use Rattle.std.specs.Option.{option_map}
 use Rattle.std.proofs.lemmas.List.{drop-drop, take-append-drop}
 use Rattle.std.proofs.lemmas.List.Sums.{fold_more, fold-append}
 use Rattle.asm_syntax.specs.Bytes.{starts_with, value_of}
-use Rattle.asm_syntax.specs.declared.fault.Fault.{Fault}
+use Rattle.asm_syntax.specs.declared.token_refusal.TokenRefusal.{TokenRefusal}
 use Rattle.asm_syntax.specs.Lexes.{End, At, token_at}
 use Rattle.asm_syntax.specs.declared.token.TokenKind.{TokenKind}
-use Rattle.asm_lex_theory.specs.declared.Front.TheVariants.{Gap, Taken, Wrong}
+use Rattle.asm_lex_theory.specs.declared.Front.TheVariants.{Gap, Taken, Refusal}
 use Rattle.asm_lex_theory.specs.Scan.{front_on, block_len, with_token, lexed_from}
 use Rattle.asm_lex_theory.proofs.Lists.{by_true, by_false, dropped}
-use Rattle.asm_lex_theory.proofs.Fronts.{Stands, front_stands}
+use Rattle.asm_lex_theory.proofs.Fronts.{IsFront, is_front}
 use Rattle.asm_lex_theory.proofs.Whole.{gap_some, token_some, gap_step, token_step, refuse_step_at}
 
 pub cons_at : (bs : List ℕ) (i : ℕ) → i < length bs → drop i bs ≡ get_or bs i 0 ∷ drop (i + 1) bs
@@ -58,16 +58,16 @@ too_many bs i value h e large =
 
 -- ---- a step of the reading
 
-stands_on : (bs : List ℕ) → 0 < length bs → Stands bs (front_on bs)
-stands_on [] h = absurd (omega arith)
-stands_on (b ∷ bs) h = front_stands b bs
+is_front_on : (bs : List ℕ) → 0 < length bs → IsFront bs (front_on bs)
+is_front_on [] h = absurd (omega arith)
+is_front_on (b ∷ bs) h = is_front b bs
 
 pub record Moved (bs : List ℕ) (at n : ℕ) : Type 0 where
   pub some : 0 < n
   pub within : at + n ≤ length bs
 
-moved_behind : (bs a c : List ℕ) (at n : ℕ) → drop at bs ≡ a ++ c → n ≡ length a → c ≡ drop (at + n) bs
-moved_behind bs a c at n e l = sym (dropped (drop at bs) a c n e l) ∙ drop-drop n at bs
+moved_rest : (bs a c : List ℕ) (at n : ℕ) → drop at bs ≡ a ++ c → n ≡ length a → c ≡ drop (at + n) bs
+moved_rest bs a c at n e l = sym (dropped (drop at bs) a c n e l) ∙ drop-drop n at bs
 
 moved_within : (bs a c : List ℕ) (at n : ℕ) → at < length bs → 0 < length a → drop at bs ≡ a ++ c → n ≡ length a → Moved bs at n
 moved_within bs a c at n h s e l =
@@ -75,31 +75,31 @@ moved_within bs a c at n h s e l =
     let left = length-drop at bs in
     record { some = omega arith; within = omega arith }
 
-front_here : (bs : List ℕ) (at : ℕ) → at < length bs → Stands (drop at bs) (front_on (drop at bs))
-front_here bs at h = let left = length-drop at bs in stands_on (drop at bs) (omega arith)
+front_here : (bs : List ℕ) (at : ℕ) → at < length bs → IsFront (drop at bs) (front_on (drop at bs))
+front_here bs at h = let left = length-drop at bs in is_front_on (drop at bs) (omega arith)
 
 pub gap_moves : (bs : List ℕ) (at n : ℕ) → at < length bs → Gap n ≡ front_on (drop at bs) → Moved bs at n
-gap_moves bs at n h f = let s = subst (Stands (drop at bs)) (sym f) (front_here bs at h) in moved_within bs s.0 s.1 at n h (gap_some s.0 s.1 s.4) s.2 s.3
+gap_moves bs at n h f = let s = subst (IsFront (drop at bs)) (sym f) (front_here bs at h) in moved_within bs s.0 s.1 at n h (gap_some s.0 s.1 s.4) s.2 s.3
 
 pub token_moves : (bs : List ℕ) (at n : ℕ) (k : TokenKind) → at < length bs → Taken k n ≡ front_on (drop at bs) → Moved bs at n
-token_moves bs at n k h f = let s = subst (Stands (drop at bs)) (sym f) (front_here bs at h) in moved_within bs s.0 s.1 at n h (token_some s.0 s.1 k s.5.token) s.2 s.3
+token_moves bs at n k h f = let s = subst (IsFront (drop at bs)) (sym f) (front_here bs at h) in moved_within bs s.0 s.1 at n h (token_some s.0 s.1 k s.5.token) s.2 s.3
 
 pub gap_at : (bs : List ℕ) (at n : ℕ) → at < length bs → Gap n ≡ front_on (drop at bs) → lexed_from (drop at bs) zero at ≡ lexed_from (drop (at + n) bs) zero (at + n)
 gap_at bs at n h f =
-    let s = subst (Stands (drop at bs)) (sym f) (front_here bs at h) in
+    let s = subst (IsFront (drop at bs)) (sym f) (front_here bs at h) in
     gap_step (drop at bs) s.0 s.1 at s.2 (gap_some s.0 s.1 s.4) (sym f ∙ ap Gap s.3)
-    ∙ ap (λ (v : List ℕ). lexed_from v zero (at + length s.0)) (moved_behind bs s.0 s.1 at n s.2 s.3) ∙ ap (λ (m : ℕ). lexed_from (drop (at + n) bs) zero (at + m)) (sym s.3)
+    ∙ ap (λ (v : List ℕ). lexed_from v zero (at + length s.0)) (moved_rest bs s.0 s.1 at n s.2 s.3) ∙ ap (λ (m : ℕ). lexed_from (drop (at + n) bs) zero (at + m)) (sym s.3)
 
 pub token_next : (bs : List ℕ) (at n : ℕ) (k : TokenKind) → at < length bs → Taken k n ≡ front_on (drop at bs)
     → lexed_from (drop at bs) zero at ≡ with_token (token_at k at (at + n)) (lexed_from (drop (at + n) bs) zero (at + n))
 token_next bs at n k h f =
-    let s = subst (Stands (drop at bs)) (sym f) (front_here bs at h) in
+    let s = subst (IsFront (drop at bs)) (sym f) (front_here bs at h) in
     token_step (drop at bs) s.0 s.1 k at s.2 (token_some s.0 s.1 k s.5.token) (sym f ∙ ap (Taken k) s.3)
-    ∙ ap (λ (v : List ℕ). with_token (token_at k at (at + length s.0)) (lexed_from v zero (at + length s.0))) (moved_behind bs s.0 s.1 at n s.2 s.3)
+    ∙ ap (λ (v : List ℕ). with_token (token_at k at (at + length s.0)) (lexed_from v zero (at + length s.0))) (moved_rest bs s.0 s.1 at n s.2 s.3)
     ∙ ap (λ (m : ℕ). with_token (token_at k at (at + m)) (lexed_from (drop (at + n) bs) zero (at + m))) (sym s.3)
 
-pub refused_at : (bs : List ℕ) (at : ℕ) (f : Fault) → at < length bs → Wrong f ≡ front_on (drop at bs) → lexed_from (drop at bs) zero at ≡ ([], At f at)
-refused_at bs at f h e = refuse_step_at (drop at bs) at f (subst (Stands (drop at bs)) (sym e) (front_here bs at h)) (sym e)
+pub refused_at : (bs : List ℕ) (at : ℕ) (f : TokenRefusal) → at < length bs → Refusal f ≡ front_on (drop at bs) → lexed_from (drop at bs) zero at ≡ ([], At f at)
+refused_at bs at f h e = refuse_step_at (drop at bs) at f (subst (IsFront (drop at bs)) (sym e) (front_here bs at h)) (sym e)
 
 pub ended_at : (bs : List ℕ) (at : ℕ) → length bs ≤ at → lexed_from (drop at bs) zero at ≡ ([], End)
 unfolding lexed_from

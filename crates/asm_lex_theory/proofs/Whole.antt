@@ -3,12 +3,12 @@ use Rattle.std.proofs.Common.{◌≡◌, ℕ, zero, suc, ◌+◌, ◌<◌, ◌�
 use Rattle.asm_syntax.specs.Lexes.{IsGap, blank, line, block, IsToken, word, variable, number, marked, chars, symbol, Refuses, too_large, Stop, At, token_at, Lexes, end, gap, token, refusal}
 use Rattle.asm_syntax.specs.declared.token.Token.{Token}
 use Rattle.asm_syntax.specs.declared.token.TokenKind.{TokenKind}
-use Rattle.asm_syntax.specs.declared.fault.Fault.{Fault}
+use Rattle.asm_syntax.specs.declared.token_refusal.TokenRefusal.{TokenRefusal}
 use Rattle.asm_lex_theory.specs.declared.Front.{Front}
-use Rattle.asm_lex_theory.specs.declared.Front.TheVariants.{Gap, Taken, Wrong}
-use Rattle.asm_lex_theory.specs.Scan.{front_of, front_on, Lexed, with_token, behind, lexed_from}
+use Rattle.asm_lex_theory.specs.declared.Front.TheVariants.{Gap, Taken, Refusal}
+use Rattle.asm_lex_theory.specs.Scan.{front_of, front_on, Lexed, with_token, after_front, lexed_from}
 use Rattle.asm_lex_theory.proofs.Forms.{form_of, longest_form}
-use Rattle.asm_lex_theory.proofs.Fronts.{Stands, front_stands, gap_front, taken_front, refuse_front}
+use Rattle.asm_lex_theory.proofs.Fronts.{IsFront, is_front, gap_front, taken_front, refuse_front}
 
 pub gap_some : (a c : List ℕ) → IsGap a c → 0 < length a
 gap_some a c (blank h) = omega arith
@@ -37,7 +37,7 @@ unfolding lexed_from
 gap_step bs [] c at e n f = absurd (omega arith)
 gap_step bs (x ∷ a) c at e n f =
     ap (λ (v : List ℕ). lexed_from v zero at) e
-    ∙ ap (behind at (λ skip. lexed_from (a ++ c) skip (at + 1))) (ap front_on (sym e) ∙ f)
+    ∙ ap (after_front at (λ skip. lexed_from (a ++ c) skip (at + 1))) (ap front_on (sym e) ∙ f)
     ∙ ap (λ (m : ℕ). lexed_from (a ++ c) m (at + 1)) (omega arith)
     ∙ skipped a c (at + 1) ∙ ap (lexed_from c zero) (omega arith)
 
@@ -47,15 +47,15 @@ unfolding lexed_from
 token_step bs [] c k at e n f = absurd (omega arith)
 token_step bs (x ∷ a) c k at e n f =
     ap (λ (v : List ℕ). lexed_from v zero at) e
-    ∙ ap (behind at (λ skip. lexed_from (a ++ c) skip (at + 1))) (ap front_on (sym e) ∙ f)
+    ∙ ap (after_front at (λ skip. lexed_from (a ++ c) skip (at + 1))) (ap front_on (sym e) ∙ f)
     ∙ ap (λ (m : ℕ). with_token (token_at k at (at + length (x ∷ a))) (lexed_from (a ++ c) m (at + 1))) (omega arith)
     ∙ ap (with_token (token_at k at (at + length (x ∷ a)))) (skipped a c (at + 1) ∙ ap (lexed_from c zero) (omega arith))
 
-pub refuse_step_at : (bs : List ℕ) (at : ℕ) (f : Fault) → Refuses bs f → front_on bs ≡ Wrong f → lexed_from bs zero at ≡ ([], At f at)
+pub refuse_step_at : (bs : List ℕ) (at : ℕ) (f : TokenRefusal) → Refuses bs f → front_on bs ≡ Refusal f → lexed_from bs zero at ≡ ([], At f at)
 unfolding lexed_from
 refuse_step_at [] at f (too_large {a = a} {b = c} {n = n} e g l le) i =
     let some = token_some a c _ l.token in let sum : 0 ≡ length a + length c = ap length e ∙ length-append a c in absurd (omega arith)
-refuse_step_at (b ∷ rest) at f r e = ap (behind at (λ skip. lexed_from rest skip (at + 1))) e
+refuse_step_at (b ∷ rest) at f r e = ap (after_front at (λ skip. lexed_from rest skip (at + 1))) e
 
 -- ---- what is read so, the function gives
 
@@ -78,9 +78,9 @@ reads_within : (n : ℕ) (bs : List ℕ) (at : ℕ) → length bs ≤ n → Read
 unfolding lexed_from
 reads_within n [] at h = end
 reads_within zero (b ∷ rest) at h = absurd (omega arith)
-reads_within (suc n) (b ∷ rest) at h = go (front_of b rest) refl (front_stands b rest) (reads_within n)
+reads_within (suc n) (b ∷ rest) at h = go (front_of b rest) refl (is_front b rest) (reads_within n)
   where
-    go : (f : Front) → front_of b rest ≡ f → Stands (b ∷ rest) f → ((bs : List ℕ) (at : ℕ) → length bs ≤ n → Reads at bs (lexed_from bs zero at)) → Reads at (b ∷ rest) (lexed_from (b ∷ rest) zero at)
+    go : (f : Front) → front_of b rest ≡ f → IsFront (b ∷ rest) f → ((bs : List ℕ) (at : ℕ) → length bs ≤ n → Reads at bs (lexed_from bs zero at)) → Reads at (b ∷ rest) (lexed_from (b ∷ rest) zero at)
     go (Gap m) e s ih =
         let some = gap_some s.0 s.1 s.4 in
         let sum : length (b ∷ rest) ≡ length s.0 + length s.1 = ap length s.2 ∙ length-append s.0 s.1 in
@@ -89,7 +89,7 @@ reads_within (suc n) (b ∷ rest) at h = go (front_of b rest) refl (front_stands
         let some = token_some s.0 s.1 k s.5.token in
         let sum : length (b ∷ rest) ≡ length s.0 + length s.1 = ap length s.2 ∙ length-append s.0 s.1 in
         subst (Reads at (b ∷ rest)) (sym (token_step (b ∷ rest) s.0 s.1 k at s.2 some (e ∙ ap (Taken k) s.3))) (token s.2 s.4 s.5 s.6 (ih s.1 (at + length s.0) (omega arith)))
-    go (Wrong f) e s ih = subst (Reads at (b ∷ rest)) (sym (refuse_step_at (b ∷ rest) at f s e)) (refusal s)
+    go (Refusal f) e s ih = subst (Reads at (b ∷ rest)) (sym (refuse_step_at (b ∷ rest) at f s e)) (refusal s)
 
 pub reads : (bs : List ℕ) (at : ℕ) → Reads at bs (lexed_from bs zero at)
 reads bs at = reads_within (length bs) bs at (omega arith)

@@ -2,7 +2,7 @@ use Rattle.std.proofs.Common.{◌+◌, List, drop, arith, sym, ap, ◌∙◌}
 use Rattle.asm_syntax.specs.declared.token.Token.{Token}
 use Rattle.asm_lex_theory.specs.Scan.{lexed_from, after_tokens}
 use Rattle.asm_lex_theory.proofs.Places.{gap_moves, token_moves}
-use Rattle.asm_lex.proofs.Laws.{gap_keeps, token_keeps, wrong_tells, end_gives}
+use Rattle.asm_lex.proofs.Laws.{gap_keeps, token_keeps, refusal_gives, end_gives}
 use Rattle.asm_lex.proofs.read.read.Goals as goal
 
 pub overflow_add-at : goal.overflow_add-at
@@ -39,8 +39,8 @@ loop-at-preserved c =
           ∙ ap (λ (ts : List Token). after_tokens ts (lexed_from (drop (c.loop-at.at + c.in-Taken.len) c.args.text.now) 0 (c.loop-at.at + c.in-Taken.len))) (sym c.in_ok-push-in-Taken.ensures.ok);
     }
 
-pub returns-in-Wrong : goal.returns-in-Wrong
-returns-in-Wrong c = wrong_tells c.args.text.now (lexed_from c.args.text.now 0 0) c.loop-at.tokens c.loop-at.at c.in-Wrong.fault c.refusal.result c.loop-at.invariant.rest c.loop-at-test.true (sym c.in-Wrong.is ∙ c.in_ok-len.ensures) c.refusal.ensures
+pub returns-in-Refusal : goal.returns-in-Refusal
+returns-in-Refusal c = refusal_gives c.args.text.now (lexed_from c.args.text.now 0 0) c.loop-at.tokens c.loop-at.at c.in-Refusal.why c.refusal.result c.loop-at.invariant.rest c.loop-at-test.true (sym c.in-Refusal.is ∙ c.in_ok-len.ensures) c.refusal.ensures
 
 pub returns : goal.returns
 returns c = end_gives c.args.text.now (lexed_from c.args.text.now 0 0) c.loop-at.tokens c.loop-at.at c.loop-at.invariant.rest c.loop-at-test.false
