@@ -9,14 +9,14 @@ use Rattle.asm_syntax.specs.Models.{Import}
 use Rattle.asm_syntax.specs.Marks.{text_of}
 use Rattle.asm_syntax.specs.Grammar.{term, SpellsModel, last_part}
 use Rattle.asm_syntax.specs.Refusals as refusals
-use Rattle.asm_syntax.specs.Refusals.{Refusal, IsTermRefusal, IsModelRefusal, syntax_refusal, place_of}
+use Rattle.asm_syntax.specs.Refusals.{Refusal, IsTermRefusal, IsModelRefusal, syntax_refusal, offset_of}
 use Rattle.asm_parse_theory.specs.Models as r
 use Rattle.asm_parse_theory.specs.Terms as t
 use Rattle.asm_parse_theory.proofs.ModelRefusals as models
 use Rattle.asm_parse_theory.proofs.TermRefusals as terms
-use Rattle.asm_cursor.specs.declared.refusal.GrammarRefusal.{GrammarRefusal}
-use Rattle.asm_cursor.specs.declared.refusal.GrammarRefusal.TheVariants as grammar
-use Rattle.asm_cursor.specs.Reads.{is_too_deep}
+use Rattle.asm_parse_cursor.specs.declared.refusal.GrammarRefusal.{GrammarRefusal}
+use Rattle.asm_parse_cursor.specs.declared.refusal.GrammarRefusal.TheVariants as grammar
+use Rattle.asm_parse_cursor.specs.Reads.{is_too_deep}
 use Rattle.asm_parse.specs.declared.refusal.ParseRefusal.{ParseRefusal}
 use Rattle.asm_parse.specs.declared.refusal.ParseRefusal.TheVariants.{Lex, Syntax, Unsupported, TooDeep, NoMemory}
 use Rattle.asm_parse.specs.Answers.{IsRead, IsTold}
@@ -46,17 +46,17 @@ module _ {Tree : Type 0} (Spells : Tree → List Token → Type 0) (IsRefusal : 
 
     module _ (one : (why why' : Refusal) (rest rest' : List Token) → IsRefusal ts why rest → IsRefusal ts why' rest' → (why ≡ why') × (rest ≡ rest')) where
       same_told : (bytes : ℕ) (e : ParseRefusal) → IsRefusedFor Spells IsRefusal bytes ts e → (why : Refusal) (rest : List Token) → IsRefusal ts why rest
-          → e ≡ told why (place_of bytes rest)
+          → e ≡ told why (offset_of bytes rest)
       same_told bytes e h why rest given =
           let same = one h.why why h.rest rest h.refused given in
-          h.there ∙ ap (λ w. told w (place_of bytes h.rest)) same.0 ∙ ap (λ z. told why (place_of bytes z)) same.1
+          h.there ∙ ap (λ w. told w (offset_of bytes h.rest)) same.0 ∙ ap (λ z. told why (offset_of bytes z)) same.1
 
       err : ParseRefusal → Result Tree ParseRefusal
       err e = Err e
 
       -- a refusal that the tokens have is the one that was told
       pub told_tokens : (bytes : ℕ) (result : Result Tree ParseRefusal) → Answers Spells IsRefusal bytes ts result
-          → (why : Refusal) (rest : List Token) → IsRefusal ts why rest → IsTold (told why (place_of bytes rest)) result
+          → (why : Refusal) (rest : List Token) → IsRefusal ts why rest → IsTold (told why (offset_of bytes rest)) result
       unfolding err
       told_tokens bytes (Ok tree) h why rest given = absurd (not_both tree why rest h given)
       told_tokens bytes (Err NoMemory) h why rest given = tt
@@ -70,16 +70,16 @@ module _ {Tree : Type 0} (Spells : Tree → List Token → Type 0) (IsRefusal : 
 model_so : (bytes : ℕ) (ts rest : List Token) (why : Refusal) (e : ParseRefusal) → IsModelRefusal ts why rest → Tells bytes why rest e → AnswersModel bytes ts (Err e)
 model_so = refused_so SpellsModel IsModelRefusal
 
--- what stands behind a pair that was read, where only its second part is kept
-behind : (reply : Reply Token (List Import × ModelTree)) (tree : ModelTree) (rest : List Token) → mapped second (λ ts. reply) [] ≡ Took tree rest
+-- what stands after_pair a pair that was read, where only its second part is kept
+after_pair : (reply : Reply Token (List Import × ModelTree)) (tree : ModelTree) (rest : List Token) → mapped second (λ ts. reply) [] ≡ Took tree rest
     → (imports : List Import) × (reply ≡ Took (imports, tree) rest)
-behind (Took (imports, found) left) tree rest e = (imports, cc)
-behind (Refused is_too_deep left) tree rest e = absurd cc
+after_pair (Took (imports, found) left) tree rest e = (imports, cc)
+after_pair (Refused is_too_deep left) tree rest e = absurd cc
 
-refused_behind : (reply : Reply Token (List Import × ModelTree)) (is_too_deep : Bool) (rest : List Token) → mapped second (λ ts. reply) [] ≡ Refused is_too_deep rest
+refused_after_pair : (reply : Reply Token (List Import × ModelTree)) (is_too_deep : Bool) (rest : List Token) → mapped second (λ ts. reply) [] ≡ Refused is_too_deep rest
     → reply ≡ Refused is_too_deep rest
-refused_behind (Took (imports, found) left) is_too_deep rest e = absurd cc
-refused_behind (Refused deep left) is_too_deep rest e = cc
+refused_after_pair (Took (imports, found) left) is_too_deep rest e = absurd cc
+refused_after_pair (Refused deep left) is_too_deep rest e = cc
 
 model_to_end : (bytes : ℕ) (ts rest : List Token) (imports : List Import) (tree : ModelTree) → r.first_foreign ts ≡ None → r.model 64 ts ≡ Took (imports, tree) rest
     → length rest ≡ 0 → AnswersModel bytes ts (Ok tree)
@@ -100,19 +100,19 @@ model_not_read bytes grammar.TooDeep ts rest e none h tells = model_so bytes ts 
 pub tree_to_end : (bytes : ℕ) (ts rest : List Token) (tree : ModelTree) → r.first_foreign ts ≡ None → mapped second (r.model 64) ts ≡ Took tree rest
     → length rest ≡ 0 → AnswersModel bytes ts (Ok tree)
 tree_to_end bytes ts rest tree none e nothing =
-    let read = behind (r.model 64 ts) tree rest e in
+    let read = after_pair (r.model 64 ts) tree rest e in
     model_to_end bytes ts rest read.0 tree none read.1 nothing
 
 pub tree_in_part : (bytes : ℕ) (ts rest : List Token) (tree : ModelTree) (e : ParseRefusal) → r.first_foreign ts ≡ None → mapped second (r.model 64) ts ≡ Took tree rest
     → (length rest ≡ 0 → ⊥) → Tells bytes (syntax_refusal rest) rest e → AnswersModel bytes ts (Err e)
 tree_in_part bytes ts rest tree e none took some tells =
-    let read = behind (r.model 64 ts) tree rest took in
+    let read = after_pair (r.model 64 ts) tree rest took in
     model_in_part bytes ts rest (read.0, tree) e none read.1 some tells
 
 pub tree_not_read : (bytes : ℕ) (why : GrammarRefusal) (ts rest : List Token) (e : ParseRefusal) → r.first_foreign ts ≡ None
     → (why ≢ grammar.NoMemory → mapped second (r.model 64) ts ≡ Refused (is_too_deep why) rest) → TellsWhy bytes why rest e → AnswersModel bytes ts (Err e)
 tree_not_read bytes why ts rest e none h tells =
-    model_not_read bytes why ts rest e none (λ some. refused_behind (r.model 64 ts) (is_too_deep why) rest (h some)) tells
+    model_not_read bytes why ts rest e none (λ some. refused_after_pair (r.model 64 ts) (is_too_deep why) rest (h some)) tells
 
 pub model_foreign : (bytes : ℕ) (ts rest : List Token) (given : Import) (e : ParseRefusal) → r.first_foreign ts ≡ Some (given, rest)
     → Tells bytes (refusals.Unsupported (text_of (last_part given))) rest e → AnswersModel bytes ts (Err e)

@@ -1,14 +1,14 @@
 -- A text has one tree or one refusal, since it is read as tokens in one way.
 use Rattle.std.proofs.Common.{◌≡◌, ◌≤◌, ◌<◌, ◌∙◌, ◌⊎◌, inl, inr, ℕ, List, length, sym, refl, ap, subst, arith}
-use Rattle.asm_syntax.specs.declared.fault.Fault.{Fault}
-use Rattle.asm_syntax.specs.declared.fault.Fault.TheVariants as faults
+use Rattle.asm_syntax.specs.declared.token_refusal.TokenRefusal.{TokenRefusal}
+use Rattle.asm_syntax.specs.declared.token_refusal.TokenRefusal.TheVariants as faults
 use Rattle.asm_syntax.specs.declared.token.Token.{Token}
 use Rattle.asm_syntax.specs.declared.tree.TermTree.{TermTree}
 use Rattle.asm_syntax.specs.declared.tree.ModelTree.{ModelTree}
 use Rattle.asm_syntax.specs.Grammar.{term, SpellsModel}
 use Rattle.asm_syntax.specs.Lexes.{Stop, End, At, Lexes}
 use Rattle.asm_syntax.specs.Refusals as refusals
-use Rattle.asm_syntax.specs.Refusals.{Refusal, IsTermRefusal, IsModelRefusal, place_of}
+use Rattle.asm_syntax.specs.Refusals.{Refusal, IsTermRefusal, IsModelRefusal, offset_of}
 use Rattle.asm_syntax.specs.Texts.{most_bytes, IsModel, IsTerm, IsRefusedModel, IsRefusedTerm}
 use Rattle.asm_parse_theory.proofs.ModelRefusals as models
 use Rattle.asm_parse_theory.proofs.TermRefusals as terms
@@ -21,13 +21,13 @@ use Rattle.asm_parse.specs.Answers.{IsModelCause, IsTermCause}
 use Rattle.asm_parse.specs.Refusals.{told}
 
 -- the lexer's refusal of a fault
-lexed : Fault → ℕ → LexRefusal
+lexed : TokenRefusal → ℕ → LexRefusal
 lexed faults.OpenComment at = lexer.OpenComment at
 lexed faults.OpenString at = lexer.OpenString at
 lexed faults.NumberTooLarge at = lexer.NumberTooLarge at
 lexed faults.BadByte at = lexer.BadByte at
 
-fault_of : Stop → Fault
+fault_of : Stop → TokenRefusal
 fault_of End = faults.BadByte
 fault_of (At fault at) = fault
 
@@ -42,7 +42,7 @@ module _ (text : List ℕ) (one : (ts us : List Token) (s t : Stop) → Lexes 0 
   IsLong e = (most_bytes < length text) × (e ≡ lexer.TextTooLong (length text))
 
   Stops : List Token → LexRefusal → Type 0
-  Stops ts e = (fault : Fault) × (at : ℕ) × StopsAt text ts fault at × (e ≡ lexed fault at)
+  Stops ts e = (fault : TokenRefusal) × (at : ℕ) × StopsAt text ts fault at × (e ≡ lexed fault at)
 
   first_is : (ts : List Token) (e : LexRefusal) → IsFirst text ts e → IsLong e ⊎ Stops ts e
   unfolding IsLong Stops lexed
@@ -131,7 +131,7 @@ module _ (text : List ℕ) (one : (ts us : List Token) (s t : Stop) → Lexes 0 
   model_same_told why other at at' r q =
       let same : r.tokens ≡ q.tokens = (one r.tokens q.tokens End End r.lexes q.lexes).0 in
       let both = models.one_model_refusal q.tokens why other r.rest q.rest (subst (λ ts. IsModelRefusal ts why r.rest) same r.refused) q.refused in
-      let places : at ≡ at' = r.there ∙ ap (place_of (length text)) both.1 ∙ sym q.there in
+      let places : at ≡ at' = r.there ∙ ap (offset_of (length text)) both.1 ∙ sym q.there in
       ap (λ w. told w at) both.0 ∙ ap (told other) places
 
   pub one_model_refusal_of : (why other : ParseRefusal) → IsModelCause text why → IsModelCause text other → why ≡ other
@@ -167,7 +167,7 @@ module _ (text : List ℕ) (one : (ts us : List Token) (s t : Stop) → Lexes 0 
   term_same_told why other at at' r q =
       let same : r.tokens ≡ q.tokens = (one r.tokens q.tokens End End r.lexes q.lexes).0 in
       let both = terms.one_term_refusal q.tokens why other r.rest q.rest (subst (λ ts. IsTermRefusal ts why r.rest) same r.refused) q.refused in
-      let places : at ≡ at' = r.there ∙ ap (place_of (length text)) both.1 ∙ sym q.there in
+      let places : at ≡ at' = r.there ∙ ap (offset_of (length text)) both.1 ∙ sym q.there in
       ap (λ w. told w at) both.0 ∙ ap (told other) places
 
   pub one_term_refusal_of : (why other : ParseRefusal) → IsTermCause text why → IsTermCause text other → why ≡ other

@@ -8,7 +8,7 @@ use Rattle.asm_syntax.specs.declared.tree.ModelTree.{ModelTree}
 use Rattle.asm_grammar.specs.Language.{Language}
 use Rattle.asm_syntax.specs.Grammar.{term, SpellsModel}
 use Rattle.asm_syntax.specs.Refusals as refusals
-use Rattle.asm_syntax.specs.Refusals.{Refusal, IsRefusedAt, IsTermRefusal, IsModelRefusal, IsModelRefusedAt, syntax, too_deep, at_token, at_import, place_of}
+use Rattle.asm_syntax.specs.Refusals.{Refusal, IsRefusedAt, IsTermRefusal, IsModelRefusal, IsModelRefusedAt, syntax, too_deep, at_token, at_import, offset_of}
 use Rattle.asm_syntax.specs.Texts.{IsModel, IsTerm, IsRefusedModel, IsRefusedTerm}
 use Rattle.asm_parse_theory.proofs.ModelRefusals as models
 use Rattle.asm_parse_theory.proofs.TermRefusals as terms
@@ -18,7 +18,7 @@ use Rattle.asm_lex.specs.Answers as lexing
 use Rattle.asm_lex.specs.Spans as spans
 use Rattle.asm_parse.specs.declared.refusal.ParseRefusal.{ParseRefusal}
 use Rattle.asm_parse.specs.declared.refusal.ParseRefusal.TheVariants.{Lex, Syntax, Unsupported, TooDeep, NoMemory}
-use Rattle.asm_parse.specs.Answers.{IsModelCause, IsTermCause, IsRead, IsTold, IsPlaced, StandsIn}
+use Rattle.asm_parse.specs.Answers.{IsModelCause, IsTermCause, IsRead, IsTold, IsOffset, IsWithin}
 use Rattle.asm_parse.specs.Refusals.{told}
 use Rattle.asm_parse.specs.Tokens.{IsRefusedFor, AnswersModel, AnswersTerm}
 use Rattle.asm_parse.proofs.Answers.{only_tokens, told_tokens}
@@ -26,41 +26,41 @@ use Rattle.asm_parse.proofs.Answers.{only_tokens, told_tokens}
 -- ---- where a refusal stands
 
 -- it begins with a token of the list, or at its end
-Behind : List Token → List Token → Type 0
-Behind ts rest = (front : List Token) × (ts ≡ front ++ rest)
+After : List Token → List Token → Type 0
+After ts rest = (front : List Token) × (ts ≡ front ++ rest)
 
-token_behind : {V : Type 0} (within free : Language Token V) (ts : List Token) (why : Refusal) (rest : List Token) → IsRefusedAt within free ts why rest → Behind ts rest
-unfolding Behind
-token_behind within free ts why rest (syntax s) = (s.front, s.split)
-token_behind within free ts why rest (too_deep d) = (d.front, d.split)
+token_after : {V : Type 0} (within free : Language Token V) (ts : List Token) (why : Refusal) (rest : List Token) → IsRefusedAt within free ts why rest → After ts rest
+unfolding After
+token_after within free ts why rest (syntax s) = (s.front, s.split)
+token_after within free ts why rest (too_deep d) = (d.front, d.split)
 
-model_behind : (ts : List Token) (why : Refusal) (rest : List Token) → IsModelRefusedAt ts why rest → Behind ts rest
-unfolding Behind
-model_behind ts why rest (at_token h) = token_behind _ _ ts why rest h
-model_behind ts why rest (at_import f) = (f.front ++ f.word ∷ [], f.split ∙ sym (append_assoc f.front (f.word ∷ []) rest))
+model_after : (ts : List Token) (why : Refusal) (rest : List Token) → IsModelRefusedAt ts why rest → After ts rest
+unfolding After
+model_after ts why rest (at_token h) = token_after _ _ ts why rest h
+model_after ts why rest (at_import f) = (f.front ++ f.word ∷ [], f.split ∙ sym (append_assoc f.front (f.word ∷ []) rest))
 
-all_behind : {X : Type 0} (P : X → Type 0) (front rest : List X) → All P (front ++ rest) → All P rest
-all_behind P [] rest all = all
-all_behind P (x ∷ front) rest all = all_behind P front rest (All-tail P x (front ++ rest) all)
+all_after : {X : Type 0} (P : X → Type 0) (front rest : List X) → All P (front ++ rest) → All P rest
+all_after P [] rest all = all
+all_after P (x ∷ front) rest all = all_after P front rest (All-tail P x (front ++ rest) all)
 
 module _ (text : List ℕ) (tokens : List Token) (are : AreTokens text tokens)
     (only : (ts : List Token) → AreTokens text ts → lexing.Answers (Ok tokens) (Ok ts)) where
   same : (ts : List Token) → AreTokens text ts → ts ≡ tokens
   same ts h = let e = only ts h in cc
 
-  place_in : All (spans.StandsIn text) tokens → (rest : List Token) → Behind tokens rest → IsPlaced text (place_of (length text) rest)
-  unfolding Behind
-  place_in all [] b = (omega arith, are.0)
-  place_in all (t ∷ rest) b =
-      let stands = All-head (spans.StandsIn text) t rest (all_behind (spans.StandsIn text) b.0 (t ∷ rest) (subst (λ ts. All (spans.StandsIn text) ts) b.1 all)) in
-      let some = stands.some in
-      let within = stands.within in
+  offset_in : All (spans.IsTokenIn text) tokens → (rest : List Token) → After tokens rest → IsOffset text (offset_of (length text) rest)
+  unfolding After
+  offset_in all [] b = (omega arith, are.0)
+  offset_in all (t ∷ rest) b =
+      let is_in = All-head (spans.IsTokenIn text) t rest (all_after (spans.IsTokenIn text) b.0 (t ∷ rest) (subst (λ ts. All (spans.IsTokenIn text) ts) b.1 all)) in
+      let some = is_in.some in
+      let within = is_in.within in
       (omega arith, are.0)
 
-  stands_told : (why : Refusal) (at : ℕ) → IsPlaced text at → StandsIn text (told why at)
-  stands_told refusals.Syntax at h = h
-  stands_told (refusals.Unsupported word) at h = h
-  stands_told refusals.TooDeep at h = h
+  told_within : (why : Refusal) (at : ℕ) → IsOffset text at → IsWithin text (told why at)
+  told_within refusals.Syntax at h = h
+  told_within (refusals.Unsupported word) at h = h
+  told_within refusals.TooDeep at h = h
 
   -- ---- models
 
@@ -74,7 +74,7 @@ module _ (text : List ℕ) (tokens : List Token) (are : AreTokens text tokens)
   model_found (Ok tree) h = record { tokens = tokens; lexes = are.1; spells = h; short = are.0 }
   model_found (Err e) h = tt
 
-  model_told : (why : Refusal) (rest : List Token) → IsModelRefusal tokens why rest → IsModelCause text (told why (place_of (length text) rest))
+  model_told : (why : Refusal) (rest : List Token) → IsModelRefusal tokens why rest → IsModelCause text (told why (offset_of (length text) rest))
   model_told refusals.Syntax rest h = record { tokens = tokens; rest = rest; lexes = are.1; short = are.0; refused = h; there = refl }
   model_told (refusals.Unsupported word) rest h = record { tokens = tokens; rest = rest; lexes = are.1; short = are.0; refused = h; there = refl }
   model_told refusals.TooDeep rest h = record { tokens = tokens; rest = rest; lexes = are.1; short = are.0; refused = h; there = refl }
@@ -106,17 +106,17 @@ module _ (text : List ℕ) (tokens : List Token) (are : AreTokens text tokens)
   model_first first result h (Unsupported word at) c = model_tells result h (refusals.Unsupported word) at c
   model_first first result h (TooDeep at) c = model_tells result h refusals.TooDeep at c
 
-  model_stands : All (spans.StandsIn text) tokens → (e : ParseRefusal) → IsRefusedFor SpellsModel IsModelRefusal (length text) tokens e → StandsIn text e
-  model_stands all e h =
-      subst (λ x. StandsIn text x) (sym h.there) (stands_told h.why (place_of (length text) h.rest) (place_in all h.rest (model_behind tokens h.why h.rest h.refused.refused)))
+  model_is_within : All (spans.IsTokenIn text) tokens → (e : ParseRefusal) → IsRefusedFor SpellsModel IsModelRefusal (length text) tokens e → IsWithin text e
+  model_is_within all e h =
+      subst (λ x. IsWithin text x) (sym h.there) (told_within h.why (offset_of (length text) h.rest) (offset_in all h.rest (model_after tokens h.why h.rest h.refused.refused)))
 
-  pub model_placed : All (spans.StandsIn text) tokens → (result : Result ModelTree ParseRefusal) → AnswersModel (length text) tokens result → IfErr result (StandsIn text)
-  model_placed all (Ok tree) h = tt
-  model_placed all (Err NoMemory) h = tt
-  model_placed all (Err (Lex w)) h = tt
-  model_placed all (Err (Syntax at)) h = model_stands all (Syntax at) h
-  model_placed all (Err (Unsupported w at)) h = model_stands all (Unsupported w at) h
-  model_placed all (Err (TooDeep at)) h = model_stands all (TooDeep at) h
+  pub model_within : All (spans.IsTokenIn text) tokens → (result : Result ModelTree ParseRefusal) → AnswersModel (length text) tokens result → IfErr result (IsWithin text)
+  model_within all (Ok tree) h = tt
+  model_within all (Err NoMemory) h = tt
+  model_within all (Err (Lex w)) h = model_is_within all (Lex w) h
+  model_within all (Err (Syntax at)) h = model_is_within all (Syntax at) h
+  model_within all (Err (Unsupported w at)) h = model_is_within all (Unsupported w at) h
+  model_within all (Err (TooDeep at)) h = model_is_within all (TooDeep at) h
 
   -- ---- terms
 
@@ -130,7 +130,7 @@ module _ (text : List ℕ) (tokens : List Token) (are : AreTokens text tokens)
   term_found (Ok tree) h = record { tokens = tokens; lexes = are.1; spells = h; short = are.0 }
   term_found (Err e) h = tt
 
-  term_told : (why : Refusal) (rest : List Token) → IsTermRefusal tokens why rest → IsTermCause text (told why (place_of (length text) rest))
+  term_told : (why : Refusal) (rest : List Token) → IsTermRefusal tokens why rest → IsTermCause text (told why (offset_of (length text) rest))
   term_told refusals.Syntax rest h = record { tokens = tokens; rest = rest; lexes = are.1; short = are.0; refused = h; there = refl }
   term_told (refusals.Unsupported word) rest h = record { tokens = tokens; rest = rest; lexes = are.1; short = are.0; refused = h; there = refl }
   term_told refusals.TooDeep rest h = record { tokens = tokens; rest = rest; lexes = are.1; short = are.0; refused = h; there = refl }
@@ -162,14 +162,14 @@ module _ (text : List ℕ) (tokens : List Token) (are : AreTokens text tokens)
   term_first first result h (Unsupported word at) c = term_tells result h (refusals.Unsupported word) at c
   term_first first result h (TooDeep at) c = term_tells result h refusals.TooDeep at c
 
-  term_stands : All (spans.StandsIn text) tokens → (e : ParseRefusal) → IsRefusedFor (λ tree tokens. term.Spells tree tokens) IsTermRefusal (length text) tokens e → StandsIn text e
-  term_stands all e h =
-      subst (λ x. StandsIn text x) (sym h.there) (stands_told h.why (place_of (length text) h.rest) (place_in all h.rest (token_behind _ _ tokens h.why h.rest h.refused)))
+  term_is_within : All (spans.IsTokenIn text) tokens → (e : ParseRefusal) → IsRefusedFor (λ tree tokens. term.Spells tree tokens) IsTermRefusal (length text) tokens e → IsWithin text e
+  term_is_within all e h =
+      subst (λ x. IsWithin text x) (sym h.there) (told_within h.why (offset_of (length text) h.rest) (offset_in all h.rest (token_after _ _ tokens h.why h.rest h.refused)))
 
-  pub term_placed : All (spans.StandsIn text) tokens → (result : Result TermTree ParseRefusal) → AnswersTerm (length text) tokens result → IfErr result (StandsIn text)
-  term_placed all (Ok tree) h = tt
-  term_placed all (Err NoMemory) h = tt
-  term_placed all (Err (Lex w)) h = tt
-  term_placed all (Err (Syntax at)) h = term_stands all (Syntax at) h
-  term_placed all (Err (Unsupported w at)) h = term_stands all (Unsupported w at) h
-  term_placed all (Err (TooDeep at)) h = term_stands all (TooDeep at) h
+  pub term_within : All (spans.IsTokenIn text) tokens → (result : Result TermTree ParseRefusal) → AnswersTerm (length text) tokens result → IfErr result (IsWithin text)
+  term_within all (Ok tree) h = tt
+  term_within all (Err NoMemory) h = tt
+  term_within all (Err (Lex w)) h = term_is_within all (Lex w) h
+  term_within all (Err (Syntax at)) h = term_is_within all (Syntax at) h
+  term_within all (Err (Unsupported w at)) h = term_is_within all (Unsupported w at) h
+  term_within all (Err (TooDeep at)) h = term_is_within all (TooDeep at) h

@@ -6,8 +6,20 @@ use Rattle.asm_syntax.specs.declared.tree.ModelTree.{ModelTree}
 use Rattle.asm_syntax.specs.Refusals as refusals
 use Rattle.asm_syntax.specs.Texts.{most_bytes, IsModel, IsTerm, IsRefusedModel, IsRefusedTerm}
 use Rattle.asm_lex.specs.Answers.{IsFirst}
+use Rattle.asm_lex.specs.Spans as lexer
 use Rattle.asm_parse.specs.declared.refusal.ParseRefusal.{ParseRefusal}
-use Rattle.asm_parse.specs.declared.refusal.ParseRefusal.TheVariants.{Lex, Syntax, Unsupported, TooDeep, NoMemory}
+use Rattle.asm_parse.specs.declared.refusal.ParseRefusal.TheVariants.{Lex, Syntax, Unsupported}
+use Rattle.asm_parse.specs.declared.refusal.ParseRefusal.TheVariants.{TooDeep, NoMemory}
+
+-- ---- of answers
+
+-- one value at most is so
+abbrev pub AtMostOne : {X : Type 0} → (X → Type 0) → Type 0
+AtMostOne IsSo = (one other : _) → IsSo one → IsSo other → one ≡ other
+
+-- where some value is the one, no value is the other
+abbrev pub AreApart : {X Y : Type 0} → (X → Type 0) → (Y → Type 0) → Type 0
+AreApart IsOne IsOther = (x : _) (y : _) → IsOne x → IsOther y → ⊥
 
 -- ---- of a model's text
 
@@ -44,13 +56,13 @@ abbrev pub IsTold : {Tree : Type 0} → ParseRefusal → Result Tree ParseRefusa
 IsTold why (Err NoMemory) = ⊤
 IsTold why result = result ≡ Err why
 
--- the place stands in the text, or at its end
-abbrev pub IsPlaced : List ℕ → ℕ → Type 0
-IsPlaced text at = (at ≤ length text) × (length text ≤ most_bytes)
+-- the byte is in the text, or its end
+abbrev pub IsOffset : List ℕ → ℕ → Type 0
+IsOffset text at = (at ≤ length text) × (length text ≤ most_bytes)
 
-abbrev pub StandsIn : List ℕ → ParseRefusal → Type 0
-StandsIn text (Lex why) = ⊤
-StandsIn text (Syntax at) = IsPlaced text at
-StandsIn text (Unsupported word at) = IsPlaced text at
-StandsIn text (TooDeep at) = IsPlaced text at
-StandsIn text NoMemory = ⊤
+abbrev pub IsWithin : List ℕ → ParseRefusal → Type 0
+IsWithin text (Lex why) = lexer.IsWithin text why
+IsWithin text (Syntax at) = IsOffset text at
+IsWithin text (Unsupported word at) = IsOffset text at
+IsWithin text (TooDeep at) = IsOffset text at
+IsWithin text NoMemory = ⊤

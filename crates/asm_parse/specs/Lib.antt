@@ -1,6 +1,4 @@
-pub mod Lines
-pub mod Nests
-pub mod Sets
+pub mod Lists
 pub mod Imports
 pub mod Refusals
 pub mod Answers

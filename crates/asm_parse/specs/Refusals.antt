@@ -1,14 +1,17 @@
 -- The refusal of a text for that of its lexer or of its tokens.
 use Rattle.std.specs.Prelude.{◌≡◌, ℕ, List, [], ◌∷◌, ⊤}
 use Rattle.asm_syntax.specs.declared.token.Token.{Token}
+use Rattle.asm_syntax.specs.Marks.{last_of, text_of}
 use Rattle.asm_syntax.specs.Refusals as refusals
-use Rattle.asm_syntax.specs.Refusals.{Refusal, kind_refusal, syntax_refusal, place_of}
+use Rattle.asm_syntax.specs.Refusals.{Refusal, kind_refusal, syntax_refusal, offset_of}
 use Rattle.asm_lex.specs.declared.LexRefusal.{LexRefusal}
 use Rattle.asm_lex.specs.declared.LexRefusal.TheVariants as lexer
-use Rattle.asm_cursor.specs.declared.refusal.GrammarRefusal.{GrammarRefusal}
-use Rattle.asm_cursor.specs.declared.refusal.GrammarRefusal.TheVariants as grammar
+use Rattle.asm_parse_cursor.specs.declared.refusal.GrammarRefusal.{GrammarRefusal}
+use Rattle.asm_parse_cursor.specs.declared.refusal.GrammarRefusal.TheVariants as grammar
+use Rattle.asm_parse.specs.declared.foreign.Foreign.{Foreign}
 use Rattle.asm_parse.specs.declared.refusal.ParseRefusal.{ParseRefusal}
-use Rattle.asm_parse.specs.declared.refusal.ParseRefusal.TheVariants.{Lex, Syntax, Unsupported, TooDeep, NoMemory}
+use Rattle.asm_parse.specs.declared.refusal.ParseRefusal.TheVariants.{Lex, Syntax, Unsupported}
+use Rattle.asm_parse.specs.declared.refusal.ParseRefusal.TheVariants.{TooDeep, NoMemory}
 
 -- want of memory is told as such
 abbrev pub unlexed : LexRefusal → ParseRefusal
@@ -35,10 +38,15 @@ IsTheRefusal wanted (TooDeep at) = TooDeep at ≡ wanted
 
 -- it is told where these tokens begin, in a text of so many bytes
 abbrev pub Tells : ℕ → Refusal → List Token → ParseRefusal → Type 0
-Tells bytes why rest e = IsTheRefusal (told why (place_of bytes rest)) e
+Tells bytes why rest e = IsTheRefusal (told why (offset_of bytes rest)) e
 
 abbrev pub TellsToken : Token → ParseRefusal → Type 0
 TellsToken t e = IsTheRefusal (told (kind_refusal t.kind) t.span.start) e
+
+-- it is told for an import that isn't of the standard library
+abbrev pub TellsImport : ℕ → Foreign → ParseRefusal → Type 0
+TellsImport bytes f e =
+    Tells bytes (refusals.Unsupported (text_of (last_of f.first f.others))) f.rest.now e
 
 -- it is told for that of the grammar
 abbrev pub TellsWhy : ℕ → GrammarRefusal → List Token → ParseRefusal → Type 0

@@ -1,29 +1,25 @@
 //! The first import of a model that isn't of the standard library.
-ghost use Rattle.std.specs.Prelude.{◌≡◌, ℕ, length, codes, IfOk};
-ghost use Rattle.std.specs.Option.{option_map};
-ghost use Rattle.asm_grammar.specs.Parser.{both, expect};
-ghost use Rattle.asm_syntax.specs.Marks.{is, id, last_of};
+ghost use Rattle.std.specs.Prelude.{◌≡◌, length, IfOk};
+ghost use Rattle.asm_syntax.specs.Marks.{last_of};
 ghost use Rattle.asm_syntax.specs.Grammar.{is_standard};
-ghost use Rattle.asm_cursor.specs.Reads.{ReadsAs};
-ghost use Rattle.asm_parse_theory.specs.Forms.{quoted};
+ghost use Rattle.asm_parse_cursor.specs.Reads.{ReadsAs};
 ghost use Rattle.asm_parse_theory.specs.Models as reading;
-ghost use Rattle.asm_parse_theory.specs.Models.{foreign_parts, foreign_word};
-ghost use Rattle.asm_parse.specs.Imports.{seen, stepped};
+ghost use Rattle.asm_parse.specs.Imports.{Finds, Steps, StepsInParts};
 
-use crate::models::parts;
-use asm_cursor::{GrammarRefusal, Tokens};
-use asm_syntax::{Row, Token, TokenKind};
+use crate::imports::parts;
+use asm_parse_cursor::{GrammarRefusal, Tokens};
+use asm_syntax::{List, Token, TokenKind};
 use std::alloc::{AllocError, Global};
 
 /// The parts of an import, and the tokens from its parts on.
 #[derive(Drop)]
 pub(crate) struct Foreign<'a> {
     pub(crate) first: Token,
-    pub(crate) others: Row<Token>,
+    pub(crate) others: List<Token>,
     pub(crate) rest: &'a [Token],
 }
 
-/// What stands next, where an import may.
+/// What comes next, where an import may.
 #[derive(Drop)]
 enum Next<'a> {
     /// An import of the standard library, which was taken.
@@ -39,7 +35,7 @@ pub(crate) fn first_foreign<'a>(
     alloc: Global,
     tokens: &'a [Token],
 ) -> Result<Option<Foreign<'a>>, AllocError>
-    ensures { IfOk result (λ found. option_map seen found ≡ reading.first_foreign tokens.now) }
+    ensures { IfOk result (λ found. Finds found (reading.first_foreign tokens.now)) }
 {
     let mut ahead = Tokens::new(tokens);
     match title(&mut ahead) {
@@ -52,7 +48,7 @@ pub(crate) fn first_foreign<'a>(
 
 /// "asm" ID
 fn title<'a>(tokens: &mut Tokens<'a>) -> Result<(&'a Token, &'a Token), GrammarRefusal>
-    ensures { ReadsAs (λ t. (t.0.now, t.1.now)) (both (quoted (codes "asm")) (expect (is id)) tokens.old) result tokens.new }
+    ensures { ReadsAs (λ t. (t.0.now, t.1.now)) (reading.title tokens.old) result tokens.new }
 {
     let word = tokens.expect_word("asm")?;
     let name = tokens.expect_id()?;
@@ -64,7 +60,7 @@ fn foreign_among<'a>(
     alloc: Global,
     tokens: &mut Tokens<'a>,
 ) -> Result<Option<Foreign<'a>>, AllocError>
-    ensures { IfOk result (λ found. option_map seen found ≡ reading.foreign_among (length tokens.old) tokens.old) }
+    ensures { IfOk result (λ f. Finds f (reading.foreign_among (length tokens.old) tokens.old)) }
 {
     for _turn in 0..tokens.left() {
         match next_import(alloc, tokens)? {
@@ -76,9 +72,9 @@ fn foreign_among<'a>(
     Ok(None)
 }
 
-/// The import that stands next.
+/// The next import.
 fn next_import<'a>(alloc: Global, tokens: &mut Tokens<'a>) -> Result<Next<'a>, AllocError>
-    ensures { IfOk result (λ step. (n : ℕ) → foreign_word (reading.foreign_among n) (quoted (codes "import") tokens.old) ≡ stepped n step tokens.new) }
+    ensures { IfOk result (λ step. Steps tokens.old step tokens.new) }
 {
     match tokens.expect_word("import") {
         Ok(_import) => next_parts(alloc, tokens),
@@ -88,9 +84,9 @@ fn next_import<'a>(alloc: Global, tokens: &mut Tokens<'a>) -> Result<Next<'a>, A
     }
 }
 
-/// The import whose parts stand next.
+/// The import whose parts come next.
 fn next_parts<'a>(alloc: Global, tokens: &mut Tokens<'a>) -> Result<Next<'a>, AllocError>
-    ensures { IfOk result (λ step. (n : ℕ) → foreign_parts (reading.foreign_among n) tokens.old (reading.parts tokens.old) ≡ stepped n step tokens.new) }
+    ensures { IfOk result (λ step. StepsInParts tokens.old step tokens.new) }
 {
     let rest = tokens.rest();
     match parts(alloc, tokens) {

@@ -3,18 +3,21 @@ ghost use Rattle.std.specs.Prelude.{◌≡◌, ◌≢◌, ℕ, List, None, IfOk,
 ghost use Rattle.asm_syntax.specs.declared.tree.ModelTree.{ModelTree as Tree};
 ghost use Rattle.asm_syntax.specs.declared.tree.TermTree.{TermTree as Term};
 ghost use Rattle.asm_syntax.specs.Texts.{IsModel, IsTerm};
+ghost use Rattle.asm_parse_cursor.specs.Reads.{Reads};
 ghost use Rattle.asm_parse_theory.specs.Models as reading;
+ghost use Rattle.asm_parse_theory.specs.Terms as terms;
 ghost use Rattle.asm_parse.specs.declared.refusal.ParseRefusal.{ParseRefusal as Refusal};
-ghost use Rattle.asm_parse.specs.Answers.{IsRead, IsModelCause, IsTermCause, IsTold, StandsIn};
+ghost use Rattle.asm_parse.specs.Answers.{AreApart, AtMostOne, IsModelCause, IsRead, IsTermCause};
+ghost use Rattle.asm_parse.specs.Answers.{IsTold, IsWithin};
 ghost use Rattle.asm_parse.specs.Tokens.{AnswersModel, AnswersTerm};
 
 use crate::foreign::first_foreign;
 use crate::models::model_tree;
 use crate::refusal::{ParseRefusal, refusal, syntax, unlexed, unsupported};
-use asm_cursor::Tokens;
 use asm_lex::{lex, one_reading};
+use asm_parse_cursor::{GrammarRefusal, Tokens};
 use asm_parse_terms::term;
-use asm_syntax::{ModelTree, TermTree, Token};
+use asm_syntax::{Boxed, ModelTree, TermTree, Token};
 use std::alloc::Global;
 
 /// The most constructs that are open at once.
@@ -55,8 +58,25 @@ fn known_model(alloc: Global, tokens: &[Token], bytes: u32) -> Result<ModelTree,
 fn whole_term(alloc: Global, tokens: &[Token], bytes: u32) -> Result<TermTree, ParseRefusal>
     ensures { AnswersTerm bytes tokens.now result }
 {
+    match boxed_term(alloc, tokens, bytes) {
+        Ok(tree) => Ok(tree.into_inner()),
+        Err(why) => Err(why),
+    }
+}
+
+/// term
+fn read_term(alloc: Global, tokens: &mut Tokens<'_>) -> Result<Boxed<TermTree>, GrammarRefusal>
+    ensures { Reads (terms.term 64 tokens.old) result tokens.new }
+{
+    term(alloc, tokens, MOST_OPEN)
+}
+
+/// The same, in a box.
+fn boxed_term(alloc: Global, tokens: &[Token], bytes: u32) -> Result<Boxed<TermTree>, ParseRefusal>
+    ensures { AnswersTerm bytes tokens.now result }
+{
     let mut cursor = Tokens::new(tokens);
-    match term(alloc, &mut cursor, MOST_OPEN) {
+    match read_term(alloc, &mut cursor) {
         Ok(tree) => {
             if cursor.left() > 0 {
                 Err(syntax(alloc, cursor.rest(), bytes))
@@ -81,8 +101,8 @@ pub fn parse_model(alloc: Global, text: &str) -> Result<ModelTree, ParseRefusal>
     ensures only { (tree : Tree) → IsModel text.now tree → IsRead tree result }
     ensures first { (why : Refusal) → IsModelCause text.now why → IsTold why result }
 
-    // where it stands
-    ensures placed { IfErr result (StandsIn text.now) }
+    // its place is one of the text
+    ensures within { IfErr result (IsWithin text.now) }
 {
     match lex(alloc, text) {
         Ok(tokens) => whole_model(alloc, tokens.as_slice(), text.len() as u32),
@@ -100,8 +120,8 @@ pub fn parse_term(alloc: Global, text: &str) -> Result<TermTree, ParseRefusal>
     ensures only { (tree : Term) → IsTerm text.now tree → IsRead tree result }
     ensures first { (why : Refusal) → IsTermCause text.now why → IsTold why result }
 
-    // where it stands
-    ensures placed { IfErr result (StandsIn text.now) }
+    // its place is one of the text
+    ensures within { IfErr result (IsWithin text.now) }
 {
     match lex(alloc, text) {
         Ok(tokens) => whole_term(alloc, tokens.as_slice(), text.len() as u32),
@@ -127,10 +147,10 @@ pub fn one_term()
 
 /// A text has one first refusal at most, at one place, and none where it has a tree.
 pub fn one_refusal()
-    ensures model { (text : List ℕ) (why other : Refusal) → IsModelCause text why → IsModelCause text other → why ≡ other }
-    ensures term { (text : List ℕ) (why other : Refusal) → IsTermCause text why → IsTermCause text other → why ≡ other }
-    ensures no_model { (text : List ℕ) (tree : Tree) (why : Refusal) → IsModel text tree → IsModelCause text why → ⊥ }
-    ensures no_term { (text : List ℕ) (tree : Term) (why : Refusal) → IsTerm text tree → IsTermCause text why → ⊥ }
+    ensures model { (text : List ℕ) → AtMostOne (IsModelCause text) }
+    ensures term { (text : List ℕ) → AtMostOne (IsTermCause text) }
+    ensures no_model { (text : List ℕ) → AreApart (λ t. IsModel text t) (IsModelCause text) }
+    ensures no_term { (text : List ℕ) → AreApart (λ t. IsTerm text t) (IsTermCause text) }
 {
     one_reading();
 }

@@ -1,33 +1,32 @@
 //! Why a text has no tree.
 ghost use Rattle.std.specs.Prelude.{◌≡◌};
-ghost use Rattle.asm_syntax.specs.Marks.{last_of, text_of};
-ghost use Rattle.asm_syntax.specs.Refusals as refusals;
-ghost use Rattle.asm_syntax.specs.Refusals.{place_of, syntax_refusal};
-ghost use Rattle.asm_parse.specs.Refusals.{Tells, TellsToken, TellsWhy, unlexed};
+ghost use Rattle.asm_syntax.specs.Refusals.{offset_of, syntax_refusal};
+ghost use Rattle.asm_parse.specs.Refusals.{Tells, TellsImport, TellsToken, TellsWhy, unlexed};
 
 use crate::foreign::{Foreign, last};
-use crate::words::text;
-use asm_cursor::GrammarRefusal;
 use asm_lex::LexRefusal;
-use asm_syntax::{Name, Token, TokenKind};
+use asm_parse_cursor::GrammarRefusal;
+use asm_syntax::{Text, Token, TokenKind};
 use std::alloc::Global;
 use thiserror::Error;
 
-/// Why a text has no tree: its first refusal. A refusal of the lexer wins over those of the grammar.
+/// Why a text has no tree: its first refusal. A refusal of the lexer wins over those of the
+/// grammar.
 /// Places are byte offsets from the text's start.
 #[derive(Debug, Drop, Error)]
 pub enum ParseRefusal {
     /// The text isn't read to its end as tokens.
     #[error("{0}")]
     Lex(LexRefusal),
-    /// A token, or the text's end, stands where no tree has it.
+    /// A token, or the text's end, is where no tree has it.
     #[error("no tree has what stands at byte {0}")]
     Syntax(u32),
-    /// A word that the language leaves out stands where no tree has it, or an import isn't of the
+    /// A word that the language leaves out is where no tree has it, or an import isn't of the
     /// standard library: the word, or the last part of the import.
     #[error("the language has no {word}, which stands at byte {1}", word = .0.as_str())]
-    Unsupported(Name, u32),
-    /// More than 64 constructs are open at once, or an operator stands behind a term that is higher than 63.
+    Unsupported(Text, u32),
+    /// More than 64 constructs are open at once, or an operator comes after a term that is higher
+    /// than 63.
     #[error("more than 64 constructs are open at byte {0}")]
     TooDeep(u32),
     /// Memory ran out. It says nothing about the text.
@@ -51,7 +50,7 @@ pub(crate) fn unlexed(why: LexRefusal) -> ParseRefusal
 
 /// Where these tokens begin, in a text of so many bytes.
 fn place(rest: &[Token], bytes: u32) -> u32
-    ensures { result ≡ place_of bytes rest.now }
+    ensures { result ≡ offset_of bytes rest.now }
 {
     match rest.first() {
         Some(token) => token.span.start,
@@ -106,10 +105,10 @@ fn at_token(alloc: Global, token: &Token) -> ParseRefusal
 
 /// The refusal of an import that isn't of the standard library.
 pub(crate) fn unsupported(alloc: Global, import: &Foreign<'_>, bytes: u32) -> ParseRefusal
-    ensures { Tells bytes (refusals.Unsupported (text_of (last_of import.now.first import.now.others))) import.now.rest.now result }
+    ensures { TellsImport bytes import.now result }
 {
     let at = place(import.rest, bytes);
-    match text(alloc, last(&import.first, import.others.as_slice())) {
+    match last(&import.first, import.others.as_slice()).text(alloc) {
         Ok(name) => ParseRefusal::Unsupported(name, at),
         Err(_error) => ParseRefusal::NoMemory,
     }

@@ -13,7 +13,7 @@ use Rattle.asm_syntax.specs.declared.tree.CaseTree.{CaseTree}
 use Rattle.std.specs.Option.{option_map}
 use Rattle.asm_syntax.specs.declared.token.Span.{Span}
 use Rattle.asm_syntax.specs.Heights.{height, fits, or_zero, term_step, bind_step, binds_step, case_step, terms_step, greater, greatest}
-use Rattle.asm_parse_terms.specs.Parts.{bind_height, binds_height, case_height, terms_height}
+use Rattle.asm_parse_terms.specs.HeightParts.{bind_height, binds_height, case_height, terms_height}
 
 pub height-out : (t : TermTree) → height t ≡ term_step (map-TermTree TermTree BindTree BindsTree CaseTree TermsTree ℕ ℕ ℕ ℕ ℕ height bind_height binds_height case_height terms_height (out-TermTree t))
 unfolding height bind_height binds_height case_height terms_height

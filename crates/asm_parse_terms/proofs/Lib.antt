@@ -1,6 +1,2 @@
-pub mod HeightSteps
-pub mod Turns
-pub mod Deeper
-pub mod DeeperDomains
-pub mod Starts
-pub mod Opened
+mod HeightSteps
+mod Opened

@@ -1,4 +1,2 @@
+pub mod HeightParts
 pub mod Lines
-pub mod Nests
-pub mod Parts
-pub mod Starts

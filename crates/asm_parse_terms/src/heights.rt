@@ -1,17 +1,18 @@
 //! Heights of terms. A height is compared with the most that is allowed, which goes down by one from
-//! a term to its parts, so that no more than 64 calls stand in one another.
-ghost use Rattle.std.specs.Prelude.{◌≡◌, map, nat_le};
+//! a term to its parts, so that no more than 64 calls are in one another.
+ghost use Rattle.std.specs.Prelude.{◌≡◌, nat_le};
 ghost use Rattle.std.specs.Option.{option_map};
 ghost use Rattle.std.specs.List.{list_all};
-ghost use Rattle.asm_syntax.specs.Heights.{height, fits, greater, greatest, or_zero};
-ghost use Rattle.asm_parse_terms.specs.Parts.{bind_height, binds_height, case_height, terms_height};
+ghost use Rattle.asm_syntax.specs.Heights.{height, fits, or_zero};
+ghost use Rattle.asm_parse_terms.specs.HeightParts.{bind_height, binds_height, case_height};
+ghost use Rattle.asm_parse_terms.specs.HeightParts.{terms_height, switch_height};
 
-use asm_syntax::{BindTree, BindsTree, Boxed, CaseTree, Row, TermTree, TermsTree};
+use asm_syntax::{BindTree, BindsTree, Boxed, CaseTree, List, TermTree, TermsTree};
 
 /// The greatest height left of an operator.
 const MOST: usize = 63;
 
-/// Whether a term may stand left of an operator.
+/// Whether a term may be left of an operator.
 #[tactic(auto, using(crate::proofs::HeightSteps::fits_is))]
 pub(crate) fn fits(term: &TermTree) -> bool
     ensures { result ≡ fits term.now }
@@ -78,11 +79,11 @@ fn is_other_within(other: &Option<Boxed<TermTree>>, most: usize) -> bool
 #[tactic(auto, using(crate::proofs::HeightSteps::le_cases))]
 fn is_switch_within(
     value: &Boxed<TermTree>,
-    cases: &Row<CaseTree>,
+    cases: &List<CaseTree>,
     other: &Option<Boxed<TermTree>>,
     most: usize,
 ) -> bool
-    ensures { result ≡ nat_le (greater (height value.now) (greater (greatest (map case_height cases.now)) (or_zero (option_map height other.now)))) most }
+    ensures { result ≡ nat_le (switch_height value.now cases.now other.now) most }
 {
     is_within(value.get(), most)
         && are_cases_within(cases.as_slice(), most)
@@ -99,11 +100,11 @@ fn are_within(terms: &TermsTree, most: usize) -> bool
 
 #[cycle(heights)]
 #[tactic(auto, using(crate::proofs::HeightSteps::height_steps))]
-fn all_within(terms: &[TermTree], most: usize) -> bool
+fn all_within(terms: &[Boxed<TermTree>], most: usize) -> bool
     ensures { result ≡ list_all (λ t. nat_le (height t) most) terms.now }
 {
     for term in terms {
-        if !is_within(term, most) {
+        if !is_within(term.get(), most) {
             return false;
         }
     }
@@ -144,7 +145,7 @@ fn are_further_within(binds: &[BindTree], most: usize) -> bool
 fn is_case_within(case: &CaseTree, most: usize) -> bool
     ensures { result ≡ nat_le (case_height case.now) most }
 {
-    is_within(&case.value, most) && is_within(&case.term, most)
+    is_within(case.value.get(), most) && is_within(case.term.get(), most)
 }
 
 #[cycle(heights)]

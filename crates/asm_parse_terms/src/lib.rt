@@ -1,22 +1,11 @@
-//! The parser of terms and of domains: a function for each line of their grammar.
+//! The parser of terms: operators with their operands, and the public calls.
 #![tactic(auto)]
 
-mod ahead;
-mod domains;
-mod grammar;
 mod heights;
-mod line;
-mod lists;
+mod lines;
 mod operators;
-mod parts;
-mod prims;
-mod quantifiers;
 mod terms;
-#[cfg(test)]
-mod tests;
-mod variables;
+mod trees;
 
-pub use ahead::starts_term;
-pub use domains::domain;
+pub use asm_parse_prims::starts_term;
 pub use terms::{arguments, binds, call, term};
-pub use variables::{int, params, ranges};

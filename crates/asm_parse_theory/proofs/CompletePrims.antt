@@ -116,23 +116,23 @@ module _ (X : Bool) {room may : Bool} (loose : may ≡ true → room ≡ false �
       (maybe_apart starts_term (λ v. among after_terms) (is (symbol (codes "]")))
       (apart (symbol (codes "]") ∷ []) first_term refl) (λ v. apart (symbol (codes "]") ∷ []) after_terms refl)))
 
-  complete_conditional : Complete X (r.conditional room inner) (g.conditional may L) (is (keyword (codes "if"))) nowhere false
-  unfolding r.conditional
-  complete_conditional =
+  complete_if_term : Complete X (r.if_term room inner) (g.if_term may L) (is (keyword (codes "if"))) nowhere false
+  unfolding r.if_term
+  complete_if_term =
       complete_formed (λ span p. terms.If p.0 p.1.0 p.1.1 span) (complete_enclosed X loose (λ o. sound_branches (s o))
       (λ o o'. complete_branches X (c o o')) (λ o'. complete_branches true (d o')) (codes "if") (codes "endif")
       (λ v. apart (keyword (codes "endif") ∷ []) (keyword (codes "else") ∷ after_term) refl))
 
-  complete_binding : Complete X (r.binding room inner) (g.binding may L) (is (keyword (codes "let"))) nowhere false
-  unfolding r.binding
-  complete_binding =
+  complete_let_term : Complete X (r.let_term room inner) (g.let_term may L) (is (keyword (codes "let"))) nowhere false
+  unfolding r.let_term
+  complete_let_term =
       complete_formed (λ span p. terms.Let p.0 p.1 span) (complete_enclosed X loose (λ o. sound_in (s o))
       (λ o o'. complete_in X (c o o')) (λ o'. complete_in true (d o')) (codes "let") (codes "endlet")
       (λ v. apart (keyword (codes "endlet") ∷ []) after_term refl))
 
-  complete_selection : Complete X (r.selection room inner) (g.selection may L) (is (keyword (codes "switch"))) nowhere false
-  unfolding r.selection
-  complete_selection =
+  complete_switch_term : Complete X (r.switch_term room inner) (g.switch_term may L) (is (keyword (codes "switch"))) nowhere false
+  unfolding r.switch_term
+  complete_switch_term =
       complete_formed (λ span p. terms.Switch p.0 p.1.0 p.1.1 span) (complete_enclosed X loose (λ o. sound_cases (s o) room)
       (λ o o'. complete_cases X (c o o') room may) (λ o'. complete_cases true (d o') room may) (codes "switch") (codes "endswitch")
       (λ v. apart (keyword (codes "endswitch") ∷ []) after_cases refl))
@@ -146,8 +146,8 @@ module _ (X : Bool) {room may : Bool} (loose : may ≡ true → room ≡ false �
       (complete-either X complete_parenthesis
       (complete-either X complete_set
       (complete-either X complete_sequence
-      (complete-either X complete_conditional
-      (complete-either X complete_binding complete_selection
+      (complete-either X complete_if_term
+      (complete-either X complete_let_term complete_switch_term
       (apart (keyword (codes "switch") ∷ []) (keyword (codes "let") ∷ []) refl))
       (apart (keyword (codes "let") ∷ keyword (codes "switch") ∷ []) (keyword (codes "if") ∷ []) refl))
       (apart (keyword (codes "if") ∷ keyword (codes "let") ∷ keyword (codes "switch") ∷ []) (symbol (codes "[") ∷ []) refl))

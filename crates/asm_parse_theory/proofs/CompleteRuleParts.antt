@@ -57,14 +57,14 @@ closed_apart v e t i = closed_on (is_closed v) t e i
 
 -- ---- what constructs hold
 
-abbrev pub after_block : List Mark
-after_block = first_rule ++ after_rule
+abbrev pub after_par_rule : List Mark
+after_par_rule = first_rule ++ after_rule
 
-abbrev pub after_selection : List Mark
-after_selection = keyword (codes "case") ∷ keyword (codes "otherwise") ∷ after_rule
+abbrev pub after_switch_rule : List Mark
+after_switch_rule = keyword (codes "case") ∷ keyword (codes "otherwise") ∷ after_rule
 
-abbrev pub after_conditional : List Mark
-after_conditional = keyword (codes "else") ∷ after_rule
+abbrev pub after_if_rule : List Mark
+after_if_rule = keyword (codes "else") ∷ after_rule
 
 module _ (k : OfTerms) (X : Bool) (fits' : TermTree → Bool) (loose : Loose X fits') (n m : ℕ) (room : Room X n m)
     (c : is_open n ≡ true → is_open m ≡ true → Complete X (r.inside n) (g.inside fits' m) starts_rule rule_on false) where
@@ -86,21 +86,21 @@ module _ (k : OfTerms) (X : Bool) (fits' : TermTree → Bool) (loose : Loose X f
       maybe_apart (is (keyword (codes "with"))) (λ v. among after_term) (is (keyword (codes "do")))
       (apart (keyword (codes "do") ∷ []) (keyword (codes "with") ∷ []) refl) (λ v. apart (keyword (codes "do") ∷ []) after_term refl)
 
-  pub complete_block : CompleteParts parts.block_read parts.block starts_rule (λ v. among after_block) false
-  complete_block o o' =
-      weaken starts_rule (λ v. among after_block) (λ t h. h) (λ v. ends)
+  pub complete_par_rule : CompleteParts parts.par_rule_read parts.par_rule starts_rule (λ v. among after_par_rule) false
+  complete_par_rule o o' =
+      weaken starts_rule (λ v. among after_par_rule) (λ t h. h) (λ v. ends)
       (complete-then X (complete_part o o')
       (f.complete_many X (complete_part o o') (apart first_rule after_rule refl)) (λ v. apart first_rule after_rule refl))
     where
-      ends : (t : Token) → among after_block t ≡ false → (among after_rule t || (starts_rule t || among after_rule t)) ≡ false
+      ends : (t : Token) → among after_par_rule t ≡ false → (among after_rule t || (starts_rule t || among after_rule t)) ≡ false
       ends t h =
-          let after : among after_rule t ≡ false = off after_rule after_block refl t h in
+          let after : among after_rule t ≡ false = off after_rule after_par_rule refl t h in
           both_false (among after_rule t) (starts_rule t || among after_rule t) after
-          (both_false (starts_rule t) (among after_rule t) (off first_rule after_block refl t h) after)
+          (both_false (starts_rule t) (among after_rule t) (off first_rule after_par_rule refl t h) after)
 
-  pub complete_conditional : CompleteParts parts.conditional_read parts.conditional starts_term (λ v. among after_conditional) false
-  complete_conditional o o' =
-      weaken starts_term (λ v. among after_conditional) (λ t h. h) (λ v t h. ends v.1.1 t h)
+  pub complete_if_rule : CompleteParts parts.if_rule_read parts.if_rule starts_term (λ v. among after_if_rule) false
+  complete_if_rule o o' =
+      weaken starts_term (λ v. among after_if_rule) (λ t h. h) (λ v t h. ends v.1.1 t h)
       (complete-then X (k.inner.complete X fits' loose n m room o o') (complete-then X (f.complete_after_word X (complete_part o o') (codes "then"))
       (complete-maybe X (f.complete_after_word X (complete_part o o') (codes "else")))
       (λ v. apart (keyword (codes "else") ∷ []) after_rule refl))
@@ -109,12 +109,12 @@ module _ (k : OfTerms) (X : Bool) (fits' : TermTree → Bool) (loose : Loose X f
       otherwise : Token → Bool
       otherwise = is (keyword (codes "else"))
 
-      ends : (w : Option RuleTree) (t : Token) → among after_conditional t ≡ false
+      ends : (w : Option RuleTree) (t : Token) → among after_if_rule t ≡ false
           → (among after_rule t || maybe_on otherwise (λ v. among after_rule) w t) ≡ false
       ends w t h =
-          both_false (among after_rule t) (maybe_on otherwise (λ v. among after_rule) w t) (off after_rule after_conditional refl t h)
-          (maybe_under otherwise (λ v. among after_rule) (among after_conditional)
-          (off (keyword (codes "else") ∷ []) after_conditional refl) (λ v. off after_rule after_conditional refl) w t h)
+          both_false (among after_rule t) (maybe_on otherwise (λ v. among after_rule) w t) (off after_rule after_if_rule refl t h)
+          (maybe_under otherwise (λ v. among after_rule) (among after_if_rule)
+          (off (keyword (codes "else") ∷ []) after_if_rule refl) (λ v. off after_rule after_if_rule refl) w t h)
 
   pub complete_forall : CompleteParts parts.forall_read parts.forall (is variable) (λ v. rule_on v.1.1) false
   complete_forall o o' =
@@ -122,15 +122,15 @@ module _ (k : OfTerms) (X : Bool) (fits' : TermTree → Bool) (loose : Loose X f
       (complete-then X (complete_guard o o') (f.complete_after_word X (c o o') (codes "do")) guard_apart)
       (λ v. apart (keyword (codes "do") ∷ keyword (codes "with") ∷ []) (symbol (codes ",") ∷ []) refl)
 
-  pub complete_choice : CompleteParts parts.choice_read parts.choice (is variable) (λ v. dangling_on ifnone rule_on rule_on v.1.1) false
-  complete_choice o o' =
+  pub complete_choose_rule : CompleteParts parts.choose_rule_read parts.choose_rule (is variable) (λ v. dangling_on ifnone rule_on rule_on v.1.1) false
+  complete_choose_rule o o' =
       complete-then X (k.ranges.complete X fits' loose n m room o o') (complete-then X (complete_guard o o')
       (f.complete_after_word X (complete-dangling X is_closed (c o o') (f.complete_after_word X (c o o') (codes "ifnone")) closed_apart) (codes "do"))
       guard_apart)
       (λ v. apart (keyword (codes "do") ∷ keyword (codes "with") ∷ []) (symbol (codes ",") ∷ []) refl)
 
-  pub complete_binding : CompleteParts parts.binding_read parts.binding (is (symbol (codes "("))) (λ v. among after_rule) false
-  complete_binding o o' =
+  pub complete_let_rule : CompleteParts parts.let_rule_read parts.let_rule (is (symbol (codes "("))) (λ v. among after_rule) false
+  complete_let_rule o o' =
       complete-then X (k.binds.complete X fits' loose n m room o o') (f.complete_after_word X (complete_part o o') (codes "in")) (λ v t h. refl)
 
   pub complete_case : CompleteParts parts.case_read parts.case (is (keyword (codes "case"))) (λ v. among after_rule) false
@@ -138,9 +138,9 @@ module _ (k : OfTerms) (X : Bool) (fits' : TermTree → Bool) (loose : Loose X f
       f.complete_mapped case_of (f.complete_after_word X (complete-then X (k.inner.complete X fits' loose n m room o o')
       (f.complete_after_sign X (complete_part o o') (codes ":")) (λ v. apart (symbol (codes ":") ∷ []) after_term refl)) (codes "case"))
 
-  pub complete_selection : CompleteParts parts.selection_read parts.selection starts_term (λ v. among after_selection) false
-  complete_selection o o' =
-      weaken starts_term (λ v. among after_selection) (λ t h. h) (λ v t h. ends v.1.1 t h)
+  pub complete_switch_rule : CompleteParts parts.switch_rule_read parts.switch_rule starts_term (λ v. among after_switch_rule) false
+  complete_switch_rule o o' =
+      weaken starts_term (λ v. among after_switch_rule) (λ t h. h) (λ v t h. ends v.1.1 t h)
       (complete-then X (k.inner.complete X fits' loose n m room o o') (complete-then X
       (f.complete_many X (complete_case o o') (apart (keyword (codes "case") ∷ []) after_rule refl))
       (complete-maybe X (f.complete_after_word X (complete_part o o') (codes "otherwise")))
@@ -150,20 +150,20 @@ module _ (k : OfTerms) (X : Bool) (fits' : TermTree → Bool) (loose : Loose X f
       other : Token → Bool
       other = is (keyword (codes "otherwise"))
 
-      ends : (w : Option RuleTree) (t : Token) → among after_selection t ≡ false
+      ends : (w : Option RuleTree) (t : Token) → among after_switch_rule t ≡ false
           → (among after_term t || (among (keyword (codes "case") ∷ after_rule) t || maybe_on other (λ v. among after_rule) w t)) ≡ false
       ends w t h =
           both_false (among after_term t) (among (keyword (codes "case") ∷ after_rule) t || maybe_on other (λ v. among after_rule) w t)
-          (off after_term after_selection refl t h)
+          (off after_term after_switch_rule refl t h)
           (both_false (among (keyword (codes "case") ∷ after_rule) t) (maybe_on other (λ v. among after_rule) w t)
-          (off (keyword (codes "case") ∷ after_rule) after_selection refl t h)
-          (maybe_under other (λ v. among after_rule) (among after_selection)
-          (off (keyword (codes "otherwise") ∷ []) after_selection refl) (λ v. off after_rule after_selection refl) w t h))
+          (off (keyword (codes "case") ∷ after_rule) after_switch_rule refl t h)
+          (maybe_under other (λ v. among after_rule) (among after_switch_rule)
+          (off (keyword (codes "otherwise") ∷ []) after_switch_rule refl) (λ v. off after_rule after_switch_rule refl) w t h))
 
-  pub complete_extension : CompleteParts parts.extension_read parts.extension (is id) (λ v. rule_on v.1.1) false
-  complete_extension o o' =
-      subst (λ q. Complete X q (parts.extension (tg.inside fits' m) (g.inside fits' m)) (is id) (λ v. rule_on v.1.1) false)
-      (parts.extension_same (t.inside n) (r.inside n))
+  pub complete_extend_rule : CompleteParts parts.extend_rule_read parts.extend_rule (is id) (λ v. rule_on v.1.1) false
+  complete_extend_rule o o' =
+      subst (λ q. Complete X q (parts.extend_rule (tg.inside fits' m) (g.inside fits' m)) (is id) (λ v. rule_on v.1.1) false)
+      (parts.extend_rule_same (t.inside n) (r.inside n))
       (complete-then X (complete-word (is id) X) (f.complete_after_word X
       (complete-then X (f.complete_listed X (complete-word (is variable) X) (λ t h. refl))
       (f.complete_after_word X (c o o') (codes "do"))

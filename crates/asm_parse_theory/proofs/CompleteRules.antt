@@ -94,29 +94,29 @@ module _ (k : OfTerms) (X : Bool) (fits' : TermTree → Bool) (loose : Loose X f
   unfolding r.skip
   complete_skip = shut (λ span t. rules.Skip span) (f.complete_quoted X (codes "skip"))
 
-  complete_par : CompleteForm r.block rg.block (is (keyword (codes "par")))
-  unfolding r.block
+  complete_par : CompleteForm r.par_rule rg.par_rule (is (keyword (codes "par")))
+  unfolding r.par_rule
   complete_par =
       shut (λ span p. rules.Par p.0 p.1 span)
-      (f.complete_enclosed X far (sound.sound_block k n (sound.sound_inside k n) (sound.inside_starts k n))
-      (held.complete_block k X fits' loose n m room c) (λ o. held.complete_block k true fits' free_loose m m free (λ a b. d b) o o)
-      (codes "par") (codes "endpar") (λ v. apart (keyword (codes "endpar") ∷ []) held.after_block refl))
+      (f.complete_enclosed X far (sound.sound_par_rule k n (sound.sound_inside k n) (sound.inside_starts k n))
+      (held.complete_par_rule k X fits' loose n m room c) (λ o. held.complete_par_rule k true fits' free_loose m m free (λ a b. d b) o o)
+      (codes "par") (codes "endpar") (λ v. apart (keyword (codes "endpar") ∷ []) held.after_par_rule refl))
 
-  complete_seq : CompleteForm r.sequence rg.sequence (is (keyword (codes "seq")))
-  unfolding r.sequence
+  complete_seq : CompleteForm r.seq_rule rg.seq_rule (is (keyword (codes "seq")))
+  unfolding r.seq_rule
   complete_seq =
       shut (λ span p. rules.Seq p.0 p.1 span)
-      (f.complete_enclosed X far (sound.sound_block k n (sound.sound_inside k n) (sound.inside_starts k n))
-      (held.complete_block k X fits' loose n m room c) (λ o. held.complete_block k true fits' free_loose m m free (λ a b. d b) o o)
-      (codes "seq") (codes "endseq") (λ v. apart (keyword (codes "endseq") ∷ []) held.after_block refl))
+      (f.complete_enclosed X far (sound.sound_par_rule k n (sound.sound_inside k n) (sound.inside_starts k n))
+      (held.complete_par_rule k X fits' loose n m room c) (λ o. held.complete_par_rule k true fits' free_loose m m free (λ a b. d b) o o)
+      (codes "seq") (codes "endseq") (λ v. apart (keyword (codes "endseq") ∷ []) held.after_par_rule refl))
 
-  complete_if : CompleteForm r.conditional rg.conditional (is (keyword (codes "if")))
-  unfolding r.conditional
+  complete_if : CompleteForm r.if_rule rg.if_rule (is (keyword (codes "if")))
+  unfolding r.if_rule
   complete_if =
       shut (λ span p. rules.If p.0 p.1.0 p.1.1 span)
-      (f.complete_enclosed X far (sound.sound_conditional k n (sound.sound_inside k n) (sound.inside_starts k n))
-      (held.complete_conditional k X fits' loose n m room c) (λ o. held.complete_conditional k true fits' free_loose m m free (λ a b. d b) o o)
-      (codes "if") (codes "endif") (λ v. apart (keyword (codes "endif") ∷ []) held.after_conditional refl))
+      (f.complete_enclosed X far (sound.sound_if_rule k n (sound.sound_inside k n) (sound.inside_starts k n))
+      (held.complete_if_rule k X fits' loose n m room c) (λ o. held.complete_if_rule k true fits' free_loose m m free (λ a b. d b) o o)
+      (codes "if") (codes "endif") (λ v. apart (keyword (codes "endif") ∷ []) held.after_if_rule refl))
 
   complete_all : CompleteForm r.forall rg.forall (is (keyword (codes "forall")))
   unfolding r.forall
@@ -126,36 +126,36 @@ module _ (k : OfTerms) (X : Bool) (fits' : TermTree → Bool) (loose : Loose X f
       (held.complete_forall k X fits' loose n m room c) (λ o. held.complete_forall k true fits' free_loose m m free (λ a b. d b) o o)
       (codes "forall"))
 
-  complete_choose : CompleteForm r.choice rg.choice (is (keyword (codes "choose")))
-  unfolding r.choice
+  complete_choose : CompleteForm r.choose_rule rg.choose_rule (is (keyword (codes "choose")))
+  unfolding r.choose_rule
   complete_choose =
       complete-spanned span_of choose_of rule_on on_choose
-      (f.complete_opened X far (sound.sound_choice k n (sound.sound_inside k n) (sound.inside_starts k n))
-      (held.complete_choice k X fits' loose n m room c) (λ o. held.complete_choice k true fits' free_loose m m free (λ a b. d b) o o)
+      (f.complete_opened X far (sound.sound_choose_rule k n (sound.sound_inside k n) (sound.inside_starts k n))
+      (held.complete_choose_rule k X fits' loose n m room c) (λ o. held.complete_choose_rule k true fits' free_loose m m free (λ a b. d b) o o)
       (codes "choose"))
 
-  complete_let : CompleteForm r.binding rg.binding (is (keyword (codes "let")))
-  unfolding r.binding
+  complete_let : CompleteForm r.let_rule rg.let_rule (is (keyword (codes "let")))
+  unfolding r.let_rule
   complete_let =
       shut (λ span p. rules.Let p.0 p.1 span)
-      (f.complete_enclosed X far (sound.sound_binding k n (sound.sound_inside k n) (sound.inside_starts k n))
-      (held.complete_binding k X fits' loose n m room c) (λ o. held.complete_binding k true fits' free_loose m m free (λ a b. d b) o o)
+      (f.complete_enclosed X far (sound.sound_let_rule k n (sound.sound_inside k n) (sound.inside_starts k n))
+      (held.complete_let_rule k X fits' loose n m room c) (λ o. held.complete_let_rule k true fits' free_loose m m free (λ a b. d b) o o)
       (codes "let") (codes "endlet") (λ v. apart (keyword (codes "endlet") ∷ []) after_rule refl))
 
-  complete_switch : CompleteForm r.selection rg.selection (is (keyword (codes "switch")))
-  unfolding r.selection r.case
+  complete_switch : CompleteForm r.switch_rule rg.switch_rule (is (keyword (codes "switch")))
+  unfolding r.switch_rule r.case
   complete_switch =
       shut (λ span p. rules.Switch p.0 p.1.0 p.1.1 span)
-      (f.complete_enclosed X far (sound.sound_selection k n (sound.sound_inside k n) (sound.inside_starts k n))
-      (held.complete_selection k X fits' loose n m room c) (λ o. held.complete_selection k true fits' free_loose m m free (λ a b. d b) o o)
-      (codes "switch") (codes "endswitch") (λ v. apart (keyword (codes "endswitch") ∷ []) held.after_selection refl))
+      (f.complete_enclosed X far (sound.sound_switch_rule k n (sound.sound_inside k n) (sound.inside_starts k n))
+      (held.complete_switch_rule k X fits' loose n m room c) (λ o. held.complete_switch_rule k true fits' free_loose m m free (λ a b. d b) o o)
+      (codes "switch") (codes "endswitch") (λ v. apart (keyword (codes "endswitch") ∷ []) held.after_switch_rule refl))
 
-  complete_extend : CompleteForm r.extension rg.extension (is (keyword (codes "extend")))
-  unfolding r.extension
+  complete_extend : CompleteForm r.extend_rule rg.extend_rule (is (keyword (codes "extend")))
+  unfolding r.extend_rule
   complete_extend =
       complete-spanned span_of extend_of rule_on on_extend
-      (f.complete_opened X far (sound.sound_extension k n (sound.sound_inside k n) (sound.inside_starts k n))
-      (held.complete_extension k X fits' loose n m room c) (λ o. held.complete_extension k true fits' free_loose m m free (λ a b. d b) o o)
+      (f.complete_opened X far (sound.sound_extend_rule k n (sound.sound_inside k n) (sound.inside_starts k n))
+      (held.complete_extend_rule k X fits' loose n m room c) (λ o. held.complete_extend_rule k true fits' free_loose m m free (λ a b. d b) o o)
       (codes "extend"))
 
   -- what stands behind a rule's first name
@@ -180,9 +180,9 @@ module _ (k : OfTerms) (X : Bool) (fits' : TermTree → Bool) (loose : Loose X f
       (maybe_apart (is (symbol (codes "("))) nowhere (is (symbol (codes ":=")))
       (apart (symbol (codes ":=") ∷ []) (symbol (codes "(") ∷ []) refl) (λ v t h. refl)))
 
-  complete_named : CompleteForm r.named rg.named (is id)
-  unfolding r.named
-  complete_named =
+  complete_call_or_update : CompleteForm r.call_or_update rg.call_or_update (is id)
+  unfolding r.call_or_update
+  complete_call_or_update =
       complete-spanned span_of use_of rule_on (λ s v t h. twice (is_closed (use_of s v)) t h)
       (complete-then X (complete-word (is id) X) (complete-either X complete_calls complete_updates
       (apart (symbol (codes ":=") ∷ symbol (codes "(") ∷ []) (symbol (codes "[") ∷ []) refl))
@@ -194,7 +194,7 @@ module _ (k : OfTerms) (X : Bool) (fits' : TermTree → Bool) (loose : Loose X f
   pub complete_form : CompleteForm r.rule_form rg.rule_form starts_rule
   unfolding r.rule_form
   complete_form =
-      other complete_skip (other complete_named (other complete_par (other complete_seq (other complete_if
+      other complete_skip (other complete_call_or_update (other complete_par (other complete_seq (other complete_if
       (other complete_all (other complete_choose (other complete_let (other complete_switch complete_extend
       (apart (keyword (codes "extend") ∷ []) (keyword (codes "switch") ∷ []) refl))
       (apart parts.from_switch (keyword (codes "let") ∷ []) refl))
@@ -204,7 +204,7 @@ module _ (k : OfTerms) (X : Bool) (fits' : TermTree → Bool) (loose : Loose X f
       (apart parts.from_if (keyword (codes "seq") ∷ []) refl))
       (apart parts.from_seq (keyword (codes "par") ∷ []) refl))
       (apart parts.from_par (id ∷ []) refl))
-      (apart parts.from_named (keyword (codes "skip") ∷ []) refl)
+      (apart parts.from_call_or_update (keyword (codes "skip") ∷ []) refl)
 
 -- ---- rules to any depth
 

@@ -73,9 +73,9 @@ module _ {room : Bool} {p : Parser Token DomainTree} {L M : Language Token Domai
   pub sound_form : Sound (r.domain_form room p) (g.domain_form room L) (g.domain_form true M)
   unfolding r.domain_form
   sound_form =
-      sound-either (is (keyword (codes "Boolean"))) (sound_formed (sound_quoted (codes "Boolean")) (λ span t. domains.Boolean span))
-      (sound-either (is (keyword (codes "Integer"))) (sound_formed (sound_quoted (codes "Integer")) (λ span t. domains.Integer span))
-      (sound-either (is (keyword (codes "Natural"))) (sound_formed (sound_quoted (codes "Natural")) (λ span t. domains.Natural span))
+      sound-either (is (keyword (codes "Boolean"))) (sound_formed (sound_quoted (codes "Boolean")) (λ span t. domains.Truth span))
+      (sound-either (is (keyword (codes "Integer"))) (sound_formed (sound_quoted (codes "Integer")) (λ span t. domains.Int span))
+      (sound-either (is (keyword (codes "Natural"))) (sound_formed (sound_quoted (codes "Natural")) (λ span t. domains.Nat span))
       (sound-either (is (keyword (codes "String"))) (sound_formed (sound_quoted (codes "String")) (λ span t. domains.Chars span))
       (sound-either (is id) (sound_formed (sound-word (is id)) (λ span t. domains.Named t span))
       (sound-either (is (keyword (codes "Prod"))) sound_product
@@ -151,9 +151,9 @@ module _ (X : Bool) {room may : Bool} (loose : may ≡ true → room ≡ false �
   pub complete_form : Complete X (r.domain_form room p) (g.domain_form may L) (among first_domain) nowhere false
   unfolding r.domain_form
   complete_form =
-      complete-either X (complete_formed (λ span t. domains.Boolean span) (complete_quoted X (codes "Boolean")))
-      (complete-either X (complete_formed (λ span t. domains.Integer span) (complete_quoted X (codes "Integer")))
-      (complete-either X (complete_formed (λ span t. domains.Natural span) (complete_quoted X (codes "Natural")))
+      complete-either X (complete_formed (λ span t. domains.Truth span) (complete_quoted X (codes "Boolean")))
+      (complete-either X (complete_formed (λ span t. domains.Int span) (complete_quoted X (codes "Integer")))
+      (complete-either X (complete_formed (λ span t. domains.Nat span) (complete_quoted X (codes "Natural")))
       (complete-either X (complete_formed (λ span t. domains.Chars span) (complete_quoted X (codes "String")))
       (complete-either X (complete_formed (λ span t. domains.Named t span) (complete-word (is id) X))
       (complete-either X complete_product (complete-either X complete_sequence complete_powerset
@@ -169,9 +169,9 @@ module _ (X : Bool) {room may : Bool} (loose : may ≡ true → room ≡ false �
 
 pub fronts_form : (room : Bool) {L : Language Token DomainTree} → (room ≡ true → Fronts L) → Fronts (g.domain_form room L)
 fronts_form room {L} f =
-    fronts-either (fronts_formed (fronts_quoted (codes "Boolean")) (λ span t. domains.Boolean span))
-    (fronts-either (fronts_formed (fronts_quoted (codes "Integer")) (λ span t. domains.Integer span))
-    (fronts-either (fronts_formed (fronts_quoted (codes "Natural")) (λ span t. domains.Natural span))
+    fronts-either (fronts_formed (fronts_quoted (codes "Boolean")) (λ span t. domains.Truth span))
+    (fronts-either (fronts_formed (fronts_quoted (codes "Integer")) (λ span t. domains.Int span))
+    (fronts-either (fronts_formed (fronts_quoted (codes "Natural")) (λ span t. domains.Nat span))
     (fronts-either (fronts_formed (fronts_quoted (codes "String")) (λ span t. domains.Chars span))
     (fronts-either (fronts_formed (fronts-word (is id)) (λ span t. domains.Named t span))
     (fronts-either (fronts_formed (fronts_after_word (fronts_in_parentheses room (λ o. factors_fronts (f o))) (codes "Prod")) prod_of)

@@ -14,7 +14,7 @@ use Rattle.asm_syntax.specs.Models.{Import}
 use Rattle.asm_syntax.specs.Grammar.{model, last_part, are_standard}
 use Rattle.asm_syntax.specs.Refusals.{IsForeign}
 use Rattle.asm_parse_theory.specs.Models as r
-use Rattle.asm_parse_theory.specs.Models.{foreign_behind}
+use Rattle.asm_parse_theory.specs.Models.{foreign_after}
 use Rattle.asm_parse_theory.proofs.Sets.{apart}
 use Rattle.asm_parse_theory.proofs.Without.{past_clear, not_clear}
 use Rattle.asm_parse_theory.proofs.WithoutForms.{without_mark}
@@ -45,8 +45,8 @@ titled_first : (ts behind : List Token) → Titled ts behind → r.first_foreign
 unfolding r.first_foreign
 titled_first ts behind t =
     ap r.first_foreign t.split
-    ∙ ap (λ x. foreign_behind (with_next (cond x (Took t.word (t.title ∷ behind)) (Refused false (t.word ∷ t.title ∷ behind))) (expect (is id)))) t.is_word
-    ∙ ap (λ x. foreign_behind (paired t.word (cond x (Took t.title behind) (Refused false (t.title ∷ behind))))) t.is_title
+    ∙ ap (λ x. foreign_after (with_next (cond x (Took t.word (t.title ∷ behind)) (Refused false (t.word ∷ t.title ∷ behind))) (expect (is id)))) t.is_word
+    ∙ ap (λ x. foreign_after (paired t.word (cond x (Took t.title behind) (Refused false (t.title ∷ behind))))) t.is_title
 
 -- where one is found a title stands
 found_titled : (ts : List Token) (given : Import) (rest : List Token) → r.first_foreign ts ≡ Some (given, rest)
@@ -55,20 +55,20 @@ unfolding r.first_foreign
 found_titled [] given rest e = absurd (cc e)
 found_titled (t ∷ []) given rest e = go (is_asm t) e
   where
-    go : (x : Bool) → foreign_behind (with_next (cond x (Took t []) (Refused false (t ∷ []))) (expect (is id))) ≡ Some (given, rest)
+    go : (x : Bool) → foreign_after (with_next (cond x (Took t []) (Refused false (t ∷ []))) (expect (is id))) ≡ Some (given, rest)
         → (behind : List Token) × Titled (t ∷ []) behind
     go true h = absurd (cc h)
     go false h = absurd (cc h)
 found_titled (t ∷ u ∷ ts) given rest e = go (is_asm t) refl e
   where
     by_title : is_asm t ≡ true → (x : Bool) → is id u ≡ x
-        → foreign_behind (paired t (cond x (Took u ts) (Refused false (u ∷ ts)))) ≡ Some (given, rest)
+        → foreign_after (paired t (cond x (Took u ts) (Refused false (u ∷ ts)))) ≡ Some (given, rest)
         → (behind : List Token) × Titled (t ∷ u ∷ ts) behind
     by_title h true j k = (ts, record { word = t; title = u; is_word = h; is_title = j; split = refl })
     by_title h false j k = absurd (cc k)
 
     go : (x : Bool) → is_asm t ≡ x
-        → foreign_behind (with_next (cond x (Took t (u ∷ ts)) (Refused false (t ∷ u ∷ ts))) (expect (is id))) ≡ Some (given, rest)
+        → foreign_after (with_next (cond x (Took t (u ∷ ts)) (Refused false (t ∷ u ∷ ts))) (expect (is id))) ≡ Some (given, rest)
         → (behind : List Token) × Titled (t ∷ u ∷ ts) behind
     go true h k = by_title h (is id u) refl k
     go false h k = absurd (cc k)

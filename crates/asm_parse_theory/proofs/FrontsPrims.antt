@@ -56,14 +56,14 @@ module _ (room : Bool) {L : Forms} (f : room ≡ true → FrontsParts L) where
       fronts_formed (fronts_bracketed room (λ o. fronts-maybe (fronts_arguments (f o))) (codes "[") (codes "]"))
       (λ span items. terms.Seq items span)
 
-  fronts_conditional : Fronts (g.conditional room L)
-  fronts_conditional =
+  fronts_if_term : Fronts (g.if_term room L)
+  fronts_if_term =
       fronts_formed (fronts_enclosed room (λ o. fronts-then ((f o).line g.term) (fronts-then (fronts_after_word ((f o).line g.term) (codes "then"))
       (fronts-maybe (fronts_after_word ((f o).line g.term) (codes "else"))))) (codes "if") (codes "endif"))
       (λ span p. terms.If p.0 p.1.0 p.1.1 span)
 
-  fronts_binding : Fronts (g.binding room L)
-  fronts_binding =
+  fronts_let_term : Fronts (g.let_term room L)
+  fronts_let_term =
       fronts_formed (fronts_enclosed room (λ o. fronts-then (f o).binds (fronts_after_word ((f o).line g.term) (codes "in")))
       (codes "let") (codes "endlet")) (λ span p. terms.Let p.0 p.1 span)
 
@@ -71,8 +71,8 @@ module _ (room : Bool) {L : Forms} (f : room ≡ true → FrontsParts L) where
   fronts_case o =
       fronts-made case_of (fronts_after_word (fronts-then ((f o).line g.term) (fronts_after_sign ((f o).line g.term) (codes ":"))) (codes "case"))
 
-  fronts_selection : Fronts (g.selection room L)
-  fronts_selection =
+  fronts_switch_term : Fronts (g.switch_term room L)
+  fronts_switch_term =
       fronts_formed (fronts_enclosed room (λ o. fronts-then ((f o).line g.term) (fronts-then (fronts_many (fronts_case o))
       (fronts-maybe (fronts_after_word ((f o).line g.term) (codes "otherwise"))))) (codes "switch") (codes "endswitch"))
       (λ span p. terms.Switch p.0 p.1.0 p.1.1 span)
@@ -80,4 +80,4 @@ module _ (room : Bool) {L : Forms} (f : room ≡ true → FrontsParts L) where
   pub fronts_prim : Fronts (g.prim_form room L)
   fronts_prim =
       fronts-either fronts_plain (fronts-either fronts_name (fronts-either fronts_parenthesis (fronts-either fronts_set
-      (fronts-either fronts_sequence (fronts-either fronts_conditional (fronts-either fronts_binding fronts_selection))))))
+      (fronts-either fronts_sequence (fronts-either fronts_if_term (fronts-either fronts_let_term fronts_switch_term))))))

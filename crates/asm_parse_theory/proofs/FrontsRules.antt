@@ -24,41 +24,41 @@ module _ (k : OfTerms) (fits' : TermTree → Bool) (n : ℕ) (s : is_open n ≡ 
   fronts_guard : FrontsParts parts.guard
   fronts_guard o = fronts-maybe (f.fronts_after_word (k.inner.fronts fits' n o) (codes "with"))
 
-  fronts_block : FrontsParts parts.block
-  fronts_block o = fronts-then (s o) (f.fronts_many (s o))
+  fronts_par_rule : FrontsParts parts.par_rule
+  fronts_par_rule o = fronts-then (s o) (f.fronts_many (s o))
 
-  fronts_conditional : FrontsParts parts.conditional
-  fronts_conditional o =
+  fronts_if_rule : FrontsParts parts.if_rule
+  fronts_if_rule o =
       fronts-then (k.inner.fronts fits' n o) (fronts-then (f.fronts_after_word (s o) (codes "then"))
       (fronts-maybe (f.fronts_after_word (s o) (codes "else"))))
 
   fronts_forall : FrontsParts parts.forall
   fronts_forall o = fronts-then (k.ranges.fronts fits' n o) (fronts-then (fronts_guard o) (f.fronts_after_word (s o) (codes "do")))
 
-  fronts_choice : FrontsParts parts.choice
-  fronts_choice o =
+  fronts_choose_rule : FrontsParts parts.choose_rule
+  fronts_choose_rule o =
       fronts-then (k.ranges.fronts fits' n o) (fronts-then (fronts_guard o)
       (f.fronts_after_word (fronts-dangling is_closed (s o) (f.fronts_after_word (s o) (codes "ifnone"))) (codes "do")))
 
-  fronts_binding : FrontsParts parts.binding
-  fronts_binding o = fronts-then (k.binds.fronts fits' n o) (f.fronts_after_word (s o) (codes "in"))
+  fronts_let_rule : FrontsParts parts.let_rule
+  fronts_let_rule o = fronts-then (k.binds.fronts fits' n o) (f.fronts_after_word (s o) (codes "in"))
 
   fronts_case : FrontsParts parts.case
   fronts_case o =
       fronts-made case_of (f.fronts_after_word (fronts-then (k.inner.fronts fits' n o) (f.fronts_after_sign (s o) (codes ":"))) (codes "case"))
 
-  fronts_selection : FrontsParts parts.selection
-  fronts_selection o =
+  fronts_switch_rule : FrontsParts parts.switch_rule
+  fronts_switch_rule o =
       fronts-then (k.inner.fronts fits' n o) (fronts-then (f.fronts_many (fronts_case o))
       (fronts-maybe (f.fronts_after_word (s o) (codes "otherwise"))))
 
-  fronts_extension : FrontsParts parts.extension
-  fronts_extension o =
+  fronts_extend_rule : FrontsParts parts.extend_rule
+  fronts_extend_rule o =
       fronts-then (fronts-word (is id)) (f.fronts_after_word
       (fronts-then (f.fronts_listed (fronts-word (is variable))) (f.fronts_after_word (s o) (codes "do"))) (codes "with"))
 
-  fronts_named : Fronts (g.named (is_open n) (t.term_within fits' n) (t.call (is_open n) (t.inside fits' n)) (t.inside fits' n) (g.inside fits' n))
-  fronts_named =
+  fronts_call_or_update : Fronts (g.call_or_update (is_open n) (t.term_within fits' n) (t.call (is_open n) (t.inside fits' n)) (t.inside fits' n) (g.inside fits' n))
+  fronts_call_or_update =
       f.fronts_formed (fronts-then (fronts-word (is id)) (fronts-either
       (fronts-made Calls (f.fronts_bracketed (is_open n) (λ o. fronts-maybe (k.arguments.fronts fits' n o)) (codes "[") (codes "]")))
       (fronts-made Updates (fronts-then (fronts-maybe (k.call.fronts fits' n)) (f.fronts_after_sign (k.value.fronts fits' n) (codes ":=")))))) use_of
@@ -66,21 +66,21 @@ module _ (k : OfTerms) (fits' : TermTree → Bool) (n : ℕ) (s : is_open n ≡ 
   fronts_form : Fronts (g.rule_at fits' n (g.inside fits' n))
   fronts_form =
       fronts-either (f.fronts_formed (f.fronts_quoted (codes "skip")) (λ span t. rules.Skip span))
-      (fronts-either fronts_named
-      (fronts-either (f.fronts_formed (f.fronts_enclosed (is_open n) fronts_block (codes "par") (codes "endpar"))
+      (fronts-either fronts_call_or_update
+      (fronts-either (f.fronts_formed (f.fronts_enclosed (is_open n) fronts_par_rule (codes "par") (codes "endpar"))
       (λ span p. rules.Par p.0 p.1 span))
-      (fronts-either (f.fronts_formed (f.fronts_enclosed (is_open n) fronts_block (codes "seq") (codes "endseq"))
+      (fronts-either (f.fronts_formed (f.fronts_enclosed (is_open n) fronts_par_rule (codes "seq") (codes "endseq"))
       (λ span p. rules.Seq p.0 p.1 span))
-      (fronts-either (f.fronts_formed (f.fronts_enclosed (is_open n) fronts_conditional (codes "if") (codes "endif"))
+      (fronts-either (f.fronts_formed (f.fronts_enclosed (is_open n) fronts_if_rule (codes "if") (codes "endif"))
       (λ span p. rules.If p.0 p.1.0 p.1.1 span))
       (fronts-either (f.fronts_formed (f.fronts_opened (is_open n) fronts_forall (codes "forall"))
       (λ span p. rules.Forall p.0 p.1.0 p.1.1 span))
-      (fronts-either (f.fronts_formed (f.fronts_opened (is_open n) fronts_choice (codes "choose")) choose_of)
-      (fronts-either (f.fronts_formed (f.fronts_enclosed (is_open n) fronts_binding (codes "let") (codes "endlet"))
+      (fronts-either (f.fronts_formed (f.fronts_opened (is_open n) fronts_choose_rule (codes "choose")) choose_of)
+      (fronts-either (f.fronts_formed (f.fronts_enclosed (is_open n) fronts_let_rule (codes "let") (codes "endlet"))
       (λ span p. rules.Let p.0 p.1 span))
-      (fronts-either (f.fronts_formed (f.fronts_enclosed (is_open n) fronts_selection (codes "switch") (codes "endswitch"))
+      (fronts-either (f.fronts_formed (f.fronts_enclosed (is_open n) fronts_switch_rule (codes "switch") (codes "endswitch"))
       (λ span p. rules.Switch p.0 p.1.0 p.1.1 span))
-      (f.fronts_formed (f.fronts_opened (is_open n) fronts_extension (codes "extend")) extend_of)))))))))
+      (f.fronts_formed (f.fronts_opened (is_open n) fronts_extend_rule (codes "extend")) extend_of)))))))))
 
 module _ (k : OfTerms) (fits' : TermTree → Bool) where
   pub fronts_inside : (n : ℕ) → is_open n ≡ true → Fronts (g.inside fits' n)

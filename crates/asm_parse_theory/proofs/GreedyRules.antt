@@ -82,9 +82,9 @@ module _ (room : Bool) (value : Parser Token TermTree) (call : Parser Token Term
       body : Parser Token RuleTree
       body = after_word (codes "do") q
 
-  good_choice : Good Leaves (r.choice room value call inner q)
-  unfolding r.choice
-  good_choice =
+  good_choose_rule : Good Leaves (r.choose_rule room value call inner q)
+  unfolding r.choose_rule
+  good_choose_rule =
       good-measured Leaves span_of choose_of (opened room (codes "choose") (both inner.ranges (both guard body)))
       (good_opened (LeavesAs choose_of) room (codes "choose") (both inner.ranges (both guard body))
       (good-both (LeavesAs choose_of) inner.ranges (both guard body)
@@ -102,9 +102,9 @@ module _ (room : Bool) (value : Parser Token TermTree) (call : Parser Token Term
       body : Parser Token (RuleTree × Option RuleTree)
       body = after_word (codes "do") (both q other)
 
-  good_extension : Good Leaves (r.extension room value call inner q)
-  unfolding r.extension
-  good_extension =
+  good_extend_rule : Good Leaves (r.extend_rule room value call inner q)
+  unfolding r.extend_rule
+  good_extend_rule =
       good-measured Leaves span_of extend_of (opened room (codes "extend") (both (expect (is id)) (both names body)))
       (good_opened (LeavesAs extend_of) room (codes "extend") (both (expect (is id)) (both names body))
       (good-both (LeavesAs extend_of) (expect (is id)) (both names body)
@@ -119,38 +119,38 @@ module _ (room : Bool) (value : Parser Token TermTree) (call : Parser Token Term
       body = after_word (codes "do") q
 
   -- rules that end in a word
-  good_named : Good Leaves (r.named room value call inner q)
-  unfolding r.named
-  good_named = good_closed use_of _ closed-use
+  good_call_or_update : Good Leaves (r.call_or_update room value call inner q)
+  unfolding r.call_or_update
+  good_call_or_update = good_closed use_of _ closed-use
 
-  good_block : Good Leaves (r.block room value call inner q)
-  unfolding r.block
-  good_block = good_closed (λ span p. rules.Par p.0 p.1 span) _ (λ s v. closed-Par v.0 v.1 s)
+  good_par_rule : Good Leaves (r.par_rule room value call inner q)
+  unfolding r.par_rule
+  good_par_rule = good_closed (λ span p. rules.Par p.0 p.1 span) _ (λ s v. closed-Par v.0 v.1 s)
 
-  good_sequence : Good Leaves (r.sequence room value call inner q)
-  unfolding r.sequence
-  good_sequence = good_closed (λ span p. rules.Seq p.0 p.1 span) _ (λ s v. closed-Seq v.0 v.1 s)
+  good_seq_rule : Good Leaves (r.seq_rule room value call inner q)
+  unfolding r.seq_rule
+  good_seq_rule = good_closed (λ span p. rules.Seq p.0 p.1 span) _ (λ s v. closed-Seq v.0 v.1 s)
 
-  good_conditional : Good Leaves (r.conditional room value call inner q)
-  unfolding r.conditional
-  good_conditional = good_closed (λ span p. rules.If p.0 p.1.0 p.1.1 span) _ (λ s v. closed-If v.0 v.1.0 v.1.1 s)
+  good_if_rule : Good Leaves (r.if_rule room value call inner q)
+  unfolding r.if_rule
+  good_if_rule = good_closed (λ span p. rules.If p.0 p.1.0 p.1.1 span) _ (λ s v. closed-If v.0 v.1.0 v.1.1 s)
 
-  good_binding : Good Leaves (r.binding room value call inner q)
-  unfolding r.binding
-  good_binding = good_closed (λ span p. rules.Let p.0 p.1 span) _ (λ s v. closed-Let v.0 v.1 s)
+  good_let_rule : Good Leaves (r.let_rule room value call inner q)
+  unfolding r.let_rule
+  good_let_rule = good_closed (λ span p. rules.Let p.0 p.1 span) _ (λ s v. closed-Let v.0 v.1 s)
 
-  good_selection : Good Leaves (r.selection room value call inner q)
-  unfolding r.selection
-  good_selection = good_closed (λ span p. rules.Switch p.0 p.1.0 p.1.1 span) _ (λ s v. closed-Switch v.0 v.1.0 v.1.1 s)
+  good_switch_rule : Good Leaves (r.switch_rule room value call inner q)
+  unfolding r.switch_rule
+  good_switch_rule = good_closed (λ span p. rules.Switch p.0 p.1.0 p.1.1 span) _ (λ s v. closed-Switch v.0 v.1.0 v.1.1 s)
 
   good_form : Good Leaves (r.rule_form room value call inner q)
   unfolding r.rule_form
   good_form =
-      good-choose Leaves (is (keyword (codes "skip"))) _ _ good_skip (good-choose Leaves (is id) _ _ good_named
-      (good-choose Leaves (is (keyword (codes "par"))) _ _ good_block (good-choose Leaves (is (keyword (codes "seq"))) _ _ good_sequence
-      (good-choose Leaves (is (keyword (codes "if"))) _ _ good_conditional (good-choose Leaves (is (keyword (codes "forall"))) _ _ good_forall
-      (good-choose Leaves (is (keyword (codes "choose"))) _ _ good_choice (good-choose Leaves (is (keyword (codes "let"))) _ _ good_binding
-      (good-choose Leaves (is (keyword (codes "switch"))) _ _ good_selection good_extension))))))))
+      good-choose Leaves (is (keyword (codes "skip"))) _ _ good_skip (good-choose Leaves (is id) _ _ good_call_or_update
+      (good-choose Leaves (is (keyword (codes "par"))) _ _ good_par_rule (good-choose Leaves (is (keyword (codes "seq"))) _ _ good_seq_rule
+      (good-choose Leaves (is (keyword (codes "if"))) _ _ good_if_rule (good-choose Leaves (is (keyword (codes "forall"))) _ _ good_forall
+      (good-choose Leaves (is (keyword (codes "choose"))) _ _ good_choose_rule (good-choose Leaves (is (keyword (codes "let"))) _ _ good_let_rule
+      (good-choose Leaves (is (keyword (codes "switch"))) _ _ good_switch_rule good_extend_rule))))))))
 
 -- ---- rules to any depth
 

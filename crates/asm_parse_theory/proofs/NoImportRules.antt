@@ -20,24 +20,24 @@ module _ (room : Bool) {value : Language Token TermTree} {call : Language Token 
   no_skip : NoImport (g.skip room value call inner rule)
   no_skip = without_formed import_mark (λ span t. rules.Skip span) (without_mark import_mark (keyword (codes "skip")) refl)
 
-  no_named : NoImport (g.named room value call inner rule)
-  no_named =
+  no_call_or_update : NoImport (g.call_or_update room value call inner rule)
+  no_call_or_update =
       without_formed import_mark g.use_of (without-then is_import no_id (without-either is_import
       (without-made is_import Calls (without_bracketed import_mark room (codes "[") (codes "]") refl refl (without-maybe is_import (no_arguments room i))))
       (without-made is_import Updates (without-then is_import (without-maybe is_import c) (without_after_sign import_mark (codes ":=") refl v)))))
 
-  no_block : NoImport (g.block room value call inner rule)
-  no_block =
+  no_par_rule : NoImport (g.par_rule room value call inner rule)
+  no_par_rule =
       without_formed import_mark (λ span p. rules.Par p.0 p.1 span) (without_enclosed import_mark room (codes "par") (codes "endpar") refl refl
       (without-then is_import r (without_many import_mark r)))
 
-  no_sequence : NoImport (g.sequence room value call inner rule)
-  no_sequence =
+  no_seq_rule : NoImport (g.seq_rule room value call inner rule)
+  no_seq_rule =
       without_formed import_mark (λ span p. rules.Seq p.0 p.1 span) (without_enclosed import_mark room (codes "seq") (codes "endseq") refl refl
       (without-then is_import r (without_many import_mark r)))
 
-  no_conditional : NoImport (g.conditional room value call inner rule)
-  no_conditional =
+  no_if_rule : NoImport (g.if_rule room value call inner rule)
+  no_if_rule =
       without_formed import_mark (λ span p. rules.If p.0 p.1.0 p.1.1 span) (without_enclosed import_mark room (codes "if") (codes "endif") refl refl
       (without-then is_import (i.line term) (without-then is_import (without_after_word import_mark (codes "then") refl r)
       (without-maybe is_import (without_after_word import_mark (codes "else") refl r)))))
@@ -48,15 +48,15 @@ module _ (room : Bool) {value : Language Token TermTree} {call : Language Token 
       (without-then is_import i.ranges (without-then is_import (without-maybe is_import (without_after_word import_mark (codes "with") refl (i.line term)))
       (without_after_word import_mark (codes "do") refl r))))
 
-  no_choice : NoImport (g.choice room value call inner rule)
-  no_choice =
+  no_choose_rule : NoImport (g.choose_rule room value call inner rule)
+  no_choose_rule =
       without_formed import_mark g.choose_of (without_opened import_mark room (codes "choose") refl
       (without-then is_import i.ranges (without-then is_import (without-maybe is_import (without_after_word import_mark (codes "with") refl (i.line term)))
       (without_after_word import_mark (codes "do") refl
       (without-dangling is_import is_closed r (without_after_word import_mark (codes "ifnone") refl r))))))
 
-  no_binding : NoImport (g.binding room value call inner rule)
-  no_binding =
+  no_let_rule : NoImport (g.let_rule room value call inner rule)
+  no_let_rule =
       without_formed import_mark (λ span p. rules.Let p.0 p.1 span) (without_enclosed import_mark room (codes "let") (codes "endlet") refl refl
       (without-then is_import i.binds (without_after_word import_mark (codes "in") refl r)))
 
@@ -65,14 +65,14 @@ module _ (room : Bool) {value : Language Token TermTree} {call : Language Token 
       without-made is_import g.case_of (without_after_word import_mark (codes "case") refl
       (without-then is_import (i.line term) (without_after_sign import_mark (codes ":") refl r)))
 
-  no_selection : NoImport (g.selection room value call inner rule)
-  no_selection =
+  no_switch_rule : NoImport (g.switch_rule room value call inner rule)
+  no_switch_rule =
       without_formed import_mark (λ span p. rules.Switch p.0 p.1.0 p.1.1 span) (without_enclosed import_mark room (codes "switch") (codes "endswitch") refl refl
       (without-then is_import (i.line term) (without-then is_import (without_many import_mark no_case)
       (without-maybe is_import (without_after_word import_mark (codes "otherwise") refl r)))))
 
-  no_extension : NoImport (g.extension room value call inner rule)
-  no_extension =
+  no_extend_rule : NoImport (g.extend_rule room value call inner rule)
+  no_extend_rule =
       without_formed import_mark g.extend_of (without_opened import_mark room (codes "extend") refl
       (without-then is_import no_id (without_after_word import_mark (codes "with") refl
       (without-then is_import (without_listed import_mark refl (without_mark import_mark variable refl))
@@ -80,9 +80,9 @@ module _ (room : Bool) {value : Language Token TermTree} {call : Language Token 
 
   no_rule_form : NoImport (g.rule_form room value call inner rule)
   no_rule_form =
-      without-either is_import no_skip (without-either is_import no_named (without-either is_import no_block (without-either is_import no_sequence
-      (without-either is_import no_conditional (without-either is_import no_forall (without-either is_import no_choice
-      (without-either is_import no_binding (without-either is_import no_selection no_extension))))))))
+      without-either is_import no_skip (without-either is_import no_call_or_update (without-either is_import no_par_rule (without-either is_import no_seq_rule
+      (without-either is_import no_if_rule (without-either is_import no_forall (without-either is_import no_choose_rule
+      (without-either is_import no_let_rule (without-either is_import no_switch_rule no_extend_rule))))))))
 
 no_rule_at : (fits : TermTree → Bool) (n : ℕ) (rule : Language Token RuleTree) → NoImport rule → NoImport (g.rule_at fits n rule)
 no_rule_at fits n rule r =

@@ -43,9 +43,9 @@ module _ (room : Bool) {inner : Language Token DomainTree} (i : NoImport inner) 
 
   no_domain_form : NoImport (d.domain_form room inner)
   no_domain_form =
-      without-either is_import (without_formed import_mark (λ span t. domains.Boolean span) (without_mark import_mark (keyword (codes "Boolean")) refl))
-      (without-either is_import (without_formed import_mark (λ span t. domains.Integer span) (without_mark import_mark (keyword (codes "Integer")) refl))
-      (without-either is_import (without_formed import_mark (λ span t. domains.Natural span) (without_mark import_mark (keyword (codes "Natural")) refl))
+      without-either is_import (without_formed import_mark (λ span t. domains.Truth span) (without_mark import_mark (keyword (codes "Boolean")) refl))
+      (without-either is_import (without_formed import_mark (λ span t. domains.Int span) (without_mark import_mark (keyword (codes "Integer")) refl))
+      (without-either is_import (without_formed import_mark (λ span t. domains.Nat span) (without_mark import_mark (keyword (codes "Natural")) refl))
       (without-either is_import (without_formed import_mark (λ span t. domains.Chars span) (without_mark import_mark (keyword (codes "String")) refl))
       (without-either is_import (without_formed import_mark (λ span t. domains.Named t span) no_id)
       (without-either is_import no_product
@@ -135,14 +135,14 @@ module _ (room : Bool) {inner : Forms} (i : NoImports inner) where
       without_formed import_mark (λ span items. terms.Seq items span)
       (without_bracketed import_mark room (codes "[") (codes "]") refl refl (without-maybe is_import no_arguments))
 
-  no_conditional : NoImport (g.conditional room inner)
-  no_conditional =
+  no_if_term : NoImport (g.if_term room inner)
+  no_if_term =
       without_formed import_mark (λ span p. terms.If p.0 p.1.0 p.1.1 span) (without_enclosed import_mark room (codes "if") (codes "endif") refl refl
       (without-then is_import (i.line term) (without-then is_import (without_after_word import_mark (codes "then") refl (i.line term))
       (without-maybe is_import (without_after_word import_mark (codes "else") refl (i.line term))))))
 
-  no_binding : NoImport (g.binding room inner)
-  no_binding =
+  no_let_term : NoImport (g.let_term room inner)
+  no_let_term =
       without_formed import_mark (λ span p. terms.Let p.0 p.1 span) (without_enclosed import_mark room (codes "let") (codes "endlet") refl refl
       (without-then is_import i.binds (without_after_word import_mark (codes "in") refl (i.line term))))
 
@@ -151,8 +151,8 @@ module _ (room : Bool) {inner : Forms} (i : NoImports inner) where
       without-made is_import g.case_of (without_after_word import_mark (codes "case") refl
       (without-then is_import (i.line term) (without_after_sign import_mark (codes ":") refl (i.line term))))
 
-  no_selection : NoImport (g.selection room inner)
-  no_selection =
+  no_switch_term : NoImport (g.switch_term room inner)
+  no_switch_term =
       without_formed import_mark (λ span p. terms.Switch p.0 p.1.0 p.1.1 span) (without_enclosed import_mark room (codes "switch") (codes "endswitch") refl refl
       (without-then is_import (i.line term) (without-then is_import (without_many import_mark no_case)
       (without-maybe is_import (without_after_word import_mark (codes "otherwise") refl (i.line term))))))
@@ -160,7 +160,7 @@ module _ (room : Bool) {inner : Forms} (i : NoImports inner) where
   no_prim : NoImport (g.prim_form room inner)
   no_prim =
       without-either is_import no_plain (without-either is_import no_name (without-either is_import no_parenthesis (without-either is_import no_set
-      (without-either is_import no_sequence (without-either is_import no_conditional (without-either is_import no_binding no_selection))))))
+      (without-either is_import no_sequence (without-either is_import no_if_term (without-either is_import no_let_term no_switch_term))))))
 
 module _ (fits : TermTree → Bool) (room : Bool) {inner : Forms} (i : NoImports inner) where
   no_sign : NoImport (g.sign_form fits room inner)

@@ -46,8 +46,8 @@ from_seq = keyword (codes "seq") ∷ from_if
 abbrev pub from_par : List Mark
 from_par = keyword (codes "par") ∷ from_seq
 
-abbrev pub from_named : List Mark
-from_named = id ∷ from_par
+abbrev pub from_call_or_update : List Mark
+from_call_or_update = id ∷ from_par
 
 -- ---- the grammar
 
@@ -60,29 +60,29 @@ module _ (inner : Forms) (rule : Language Token RuleTree) where
   abbrev pub guard : Language Token (Option TermTree)
   guard = maybe (g.after_word (codes "with") (inner.line term))
 
-  abbrev pub block : Language Token (RuleTree × List RuleTree)
-  block = rule then g.many rule
+  abbrev pub par_rule : Language Token (RuleTree × List RuleTree)
+  par_rule = rule then g.many rule
 
-  abbrev pub conditional : Language Token (TermTree × (RuleTree × Option RuleTree))
-  conditional = inner.line term then (g.after_word (codes "then") rule then maybe (g.after_word (codes "else") rule))
+  abbrev pub if_rule : Language Token (TermTree × (RuleTree × Option RuleTree))
+  if_rule = inner.line term then (g.after_word (codes "then") rule then maybe (g.after_word (codes "else") rule))
 
   abbrev pub forall : Language Token (Guarded RuleTree)
   forall = inner.ranges then (guard then g.after_word (codes "do") rule)
 
-  abbrev pub choice : Language Token (Guarded (RuleTree × Option RuleTree))
-  choice = inner.ranges then (guard then g.after_word (codes "do") (dangling is_closed rule (g.after_word (codes "ifnone") rule)))
+  abbrev pub choose_rule : Language Token (Guarded (RuleTree × Option RuleTree))
+  choose_rule = inner.ranges then (guard then g.after_word (codes "do") (dangling is_closed rule (g.after_word (codes "ifnone") rule)))
 
-  abbrev pub binding : Language Token (BindsTree × RuleTree)
-  binding = inner.binds then g.after_word (codes "in") rule
+  abbrev pub let_rule : Language Token (BindsTree × RuleTree)
+  let_rule = inner.binds then g.after_word (codes "in") rule
 
   abbrev pub case : Language Token RuleCaseTree
   case = made case_of (g.after_word (codes "case") (inner.line term then g.after_sign (codes ":") rule))
 
-  abbrev pub selection : Language Token (TermTree × (List RuleCaseTree × Option RuleTree))
-  selection = inner.line term then (g.many case then maybe (g.after_word (codes "otherwise") rule))
+  abbrev pub switch_rule : Language Token (TermTree × (List RuleCaseTree × Option RuleTree))
+  switch_rule = inner.line term then (g.many case then maybe (g.after_word (codes "otherwise") rule))
 
-  abbrev pub extension : Language Token (Token × ((Token × List Token) × RuleTree))
-  extension = word (is id) then g.after_word (codes "with") (g.listed (word (is variable)) then g.after_word (codes "do") rule)
+  abbrev pub extend_rule : Language Token (Token × ((Token × List Token) × RuleTree))
+  extend_rule = word (is id) then g.after_word (codes "with") (g.listed (word (is variable)) then g.after_word (codes "do") rule)
 
 -- ---- the parser
 
@@ -90,38 +90,38 @@ module _ (inner : Readers) (rule : Parser Token RuleTree) where
   abbrev pub guard_read : Parser Token (Option TermTree)
   guard_read = optional (is (keyword (codes "with"))) (r.after_word (codes "with") (inner.line term))
 
-  abbrev pub block_read : Parser Token (RuleTree × List RuleTree)
-  block_read = both rule (r.many starts_rule rule)
+  abbrev pub par_rule_read : Parser Token (RuleTree × List RuleTree)
+  par_rule_read = both rule (r.many starts_rule rule)
 
-  abbrev pub conditional_read : Parser Token (TermTree × (RuleTree × Option RuleTree))
-  conditional_read =
+  abbrev pub if_rule_read : Parser Token (TermTree × (RuleTree × Option RuleTree))
+  if_rule_read =
       both (inner.line term) (both (r.after_word (codes "then") rule) (optional (is (keyword (codes "else"))) (r.after_word (codes "else") rule)))
 
   abbrev pub forall_read : Parser Token (Guarded RuleTree)
   forall_read = both inner.ranges (both guard_read (r.after_word (codes "do") rule))
 
-  abbrev pub choice_read : Parser Token (Guarded (RuleTree × Option RuleTree))
-  choice_read =
+  abbrev pub choose_rule_read : Parser Token (Guarded (RuleTree × Option RuleTree))
+  choose_rule_read =
       both inner.ranges (both guard_read (r.after_word (codes "do") (both rule (optional ifnone (r.after_word (codes "ifnone") rule)))))
 
-  abbrev pub binding_read : Parser Token (BindsTree × RuleTree)
-  binding_read = both inner.binds (r.after_word (codes "in") rule)
+  abbrev pub let_rule_read : Parser Token (BindsTree × RuleTree)
+  let_rule_read = both inner.binds (r.after_word (codes "in") rule)
 
   abbrev pub case_read : Parser Token RuleCaseTree
   case_read = mapped case_of (r.after_word (codes "case") (both (inner.line term) (r.after_sign (codes ":") rule)))
 
-  abbrev pub selection_read : Parser Token (TermTree × (List RuleCaseTree × Option RuleTree))
-  selection_read =
+  abbrev pub switch_rule_read : Parser Token (TermTree × (List RuleCaseTree × Option RuleTree))
+  switch_rule_read =
       both (inner.line term) (both (r.many (is (keyword (codes "case"))) case_read)
       (optional (is (keyword (codes "otherwise"))) (r.after_word (codes "otherwise") rule)))
 
-  abbrev pub extension_read : Parser Token (Token × ((Token × List Token) × RuleTree))
-  extension_read =
+  abbrev pub extend_rule_read : Parser Token (Token × ((Token × List Token) × RuleTree))
+  extend_rule_read =
       both (expect (is id)) (both (r.after_word (codes "with") (r.listed (expect (is variable)))) (r.after_word (codes "do") rule))
 
   -- the same, grouped as the grammar groups it
-  abbrev pub extension_grouped : Parser Token (Token × ((Token × List Token) × RuleTree))
-  extension_grouped =
+  abbrev pub extend_rule_grouped : Parser Token (Token × ((Token × List Token) × RuleTree))
+  extend_rule_grouped =
       both (expect (is id)) (r.after_word (codes "with") (both (r.listed (expect (is variable))) (r.after_word (codes "do") rule)))
 
 -- ---- two parsers after a word
@@ -143,7 +143,7 @@ module _ {V W : Type 0} (w : List ℕ) (p : Parser Token V) (q : Parser Token W)
   after_word_both : r.after_word w (both p q) ≡ both (r.after_word w p) q
   after_word_both i ts = after_three (r.quoted w ts) i
 
-pub extension_same : (inner : Readers) (rule : Parser Token RuleTree) → extension_grouped inner rule ≡ extension_read inner rule
-extension_same inner rule =
+pub extend_rule_same : (inner : Readers) (rule : Parser Token RuleTree) → extend_rule_grouped inner rule ≡ extend_rule_read inner rule
+extend_rule_same inner rule =
     ap (λ q. both (expect (is id)) q)
     (after_word_both (codes "with") (r.listed (expect (is variable))) (r.after_word (codes "do") rule))

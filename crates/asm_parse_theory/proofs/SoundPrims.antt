@@ -121,21 +121,21 @@ module _ {room : Bool} {inner : Readers} {L M : Forms} (s : room ≡ true → So
       sound_formed (sound_bracketed room (λ o. sound-maybe starts_term (sound_arguments (s o))) (inr refl) (codes "[") (codes "]"))
       (λ span items. terms.Seq items span)
 
-  sound_conditional : Sound (r.conditional room inner) (g.conditional room L) (g.conditional true M)
-  unfolding r.conditional
-  sound_conditional =
+  sound_if_term : Sound (r.if_term room inner) (g.if_term room L) (g.if_term true M)
+  unfolding r.if_term
+  sound_if_term =
       sound_formed (sound_enclosed room (λ o. sound_branches (s o)) (inl (empty.line g.term)) (codes "if") (codes "endif"))
       (λ span p. terms.If p.0 p.1.0 p.1.1 span)
 
-  sound_binding : Sound (r.binding room inner) (g.binding room L) (g.binding true M)
-  unfolding r.binding
-  sound_binding =
+  sound_let_term : Sound (r.let_term room inner) (g.let_term room L) (g.let_term true M)
+  unfolding r.let_term
+  sound_let_term =
       sound_formed (sound_enclosed room (λ o. sound_in (s o)) (inl empty.binds) (codes "let") (codes "endlet"))
       (λ span p. terms.Let p.0 p.1 span)
 
-  sound_selection : Sound (r.selection room inner) (g.selection room L) (g.selection true M)
-  unfolding r.selection
-  sound_selection =
+  sound_switch_term : Sound (r.switch_term room inner) (g.switch_term room L) (g.switch_term true M)
+  unfolding r.switch_term
+  sound_switch_term =
       sound_formed (sound_enclosed room (λ o. sound_cases (s o) room) (inl (empty.line g.term)) (codes "switch") (codes "endswitch"))
       (λ span p. terms.Switch p.0 p.1.0 p.1.1 span)
 
@@ -144,4 +144,4 @@ module _ {room : Bool} {inner : Readers} {L M : Forms} (s : room ≡ true → So
   sound_prim =
       sound-either starts_plain sound_plain (sound-either (is id) sound_name (sound-either (is (symbol (codes "("))) sound_parenthesis
       (sound-either (is (symbol (codes "{"))) sound_set (sound-either (is (symbol (codes "["))) sound_sequence
-      (sound-either (is (keyword (codes "if"))) sound_conditional (sound-either (is (keyword (codes "let"))) sound_binding sound_selection))))))
+      (sound-either (is (keyword (codes "if"))) sound_if_term (sound-either (is (keyword (codes "let"))) sound_let_term sound_switch_term))))))

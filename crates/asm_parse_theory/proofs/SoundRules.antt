@@ -44,39 +44,39 @@ module _ (k : OfTerms) (n : ℕ) (s : is_open n ≡ true → Sound (r.inside n) 
   pub sound_guard : SoundParts parts.guard_read parts.guard
   sound_guard o = sound-maybe (is (keyword (codes "with"))) (f.sound_after_word (k.inner.sound n o) (codes "with"))
 
-  pub sound_block : SoundParts parts.block_read parts.block
-  sound_block o = sound-then (s o) (f.sound_many (s o) starts_rule (starts o))
+  pub sound_par_rule : SoundParts parts.par_rule_read parts.par_rule
+  sound_par_rule o = sound-then (s o) (f.sound_many (s o) starts_rule (starts o))
 
-  pub sound_conditional : SoundParts parts.conditional_read parts.conditional
-  sound_conditional o =
+  pub sound_if_rule : SoundParts parts.if_rule_read parts.if_rule
+  sound_if_rule o =
       sound-then (k.inner.sound n o) (sound-then (f.sound_after_word (s o) (codes "then"))
       (sound-maybe (is (keyword (codes "else"))) (f.sound_after_word (s o) (codes "else"))))
 
   pub sound_forall : SoundParts parts.forall_read parts.forall
   sound_forall o = sound-then (k.ranges.sound n o) (sound-then (sound_guard o) (f.sound_after_word (s o) (codes "do")))
 
-  pub sound_choice : SoundParts parts.choice_read parts.choice
-  sound_choice o =
+  pub sound_choose_rule : SoundParts parts.choose_rule_read parts.choose_rule
+  sound_choose_rule o =
       sound-then (k.ranges.sound n o) (sound-then (sound_guard o)
       (f.sound_after_word (sound-dangling is_closed ifnone (s o) (f.sound_after_word (s o) (codes "ifnone")) (greedy_inside n)) (codes "do")))
 
-  pub sound_binding : SoundParts parts.binding_read parts.binding
-  sound_binding o = sound-then (k.binds.sound n o) (f.sound_after_word (s o) (codes "in"))
+  pub sound_let_rule : SoundParts parts.let_rule_read parts.let_rule
+  sound_let_rule o = sound-then (k.binds.sound n o) (f.sound_after_word (s o) (codes "in"))
 
   pub sound_case : SoundParts parts.case_read parts.case
   sound_case o =
       sound-made case_of (f.sound_after_word (sound-then (k.inner.sound n o) (f.sound_after_sign (s o) (codes ":"))) (codes "case"))
 
-  pub sound_selection : SoundParts parts.selection_read parts.selection
-  sound_selection o =
+  pub sound_switch_rule : SoundParts parts.switch_rule_read parts.switch_rule
+  sound_switch_rule o =
       sound-then (k.inner.sound n o)
       (sound-then (f.sound_many (sound_case o) (is (keyword (codes "case"))) (λ t h. inl (inr (t, h, refl))))
       (sound-maybe (is (keyword (codes "otherwise"))) (f.sound_after_word (s o) (codes "otherwise"))))
 
-  pub sound_extension : SoundParts parts.extension_read parts.extension
-  sound_extension o =
-      subst (λ q. Sound q (parts.extension (tg.inside fits n) (g.inside fits n)) (parts.extension (tg.inside any (suc n)) (g.inside any (suc n))))
-      (parts.extension_same (t.inside n) (r.inside n))
+  pub sound_extend_rule : SoundParts parts.extend_rule_read parts.extend_rule
+  sound_extend_rule o =
+      subst (λ q. Sound q (parts.extend_rule (tg.inside fits n) (g.inside fits n)) (parts.extend_rule (tg.inside any (suc n)) (g.inside any (suc n))))
+      (parts.extend_rule_same (t.inside n) (r.inside n))
       (sound-then (sound-word (is id)) (f.sound_after_word
       (sound-then (f.sound_listed (sound-word (is variable))) (f.sound_after_word (s o) (codes "do"))) (codes "with")))
 
@@ -95,30 +95,30 @@ module _ (k : OfTerms) (n : ℕ) (s : is_open n ≡ true → Sound (r.inside n) 
   unfolding r.skip
   sound_skip = f.sound_formed (f.sound_quoted (codes "skip")) (λ span t. rules.Skip span)
 
-  sound_named : SoundForm r.named g.named
-  unfolding r.named
-  sound_named =
+  sound_call_or_update : SoundForm r.call_or_update g.call_or_update
+  unfolding r.call_or_update
+  sound_call_or_update =
       f.sound_formed (sound-then (sound-word (is id)) (sound-either (is (symbol (codes "[")))
       (sound-made Calls (f.sound_bracketed (is_open n) (λ o. sound-maybe starts_term (k.arguments.sound n o)) (inr refl) (codes "[") (codes "]")))
       (sound-made Updates (sound-then (sound-maybe (is (symbol (codes "("))) (k.call.sound n))
       (f.sound_after_sign (k.value.sound n) (codes ":=")))))) use_of
 
-  sound_par : SoundForm r.block g.block
-  unfolding r.block
+  sound_par : SoundForm r.par_rule g.par_rule
+  unfolding r.par_rule
   sound_par =
-      f.sound_formed (f.sound_enclosed (is_open n) (sound_block k n s starts) (inl empty) (codes "par") (codes "endpar"))
+      f.sound_formed (f.sound_enclosed (is_open n) (sound_par_rule k n s starts) (inl empty) (codes "par") (codes "endpar"))
       (λ span p. rules.Par p.0 p.1 span)
 
-  sound_seq : SoundForm r.sequence g.sequence
-  unfolding r.sequence
+  sound_seq : SoundForm r.seq_rule g.seq_rule
+  unfolding r.seq_rule
   sound_seq =
-      f.sound_formed (f.sound_enclosed (is_open n) (sound_block k n s starts) (inl empty) (codes "seq") (codes "endseq"))
+      f.sound_formed (f.sound_enclosed (is_open n) (sound_par_rule k n s starts) (inl empty) (codes "seq") (codes "endseq"))
       (λ span p. rules.Seq p.0 p.1 span)
 
-  sound_if : SoundForm r.conditional g.conditional
-  unfolding r.conditional
+  sound_if : SoundForm r.if_rule g.if_rule
+  unfolding r.if_rule
   sound_if =
-      f.sound_formed (f.sound_enclosed (is_open n) (sound_conditional k n s starts) (inl (k.inner.empty any n)) (codes "if") (codes "endif"))
+      f.sound_formed (f.sound_enclosed (is_open n) (sound_if_rule k n s starts) (inl (k.inner.empty any n)) (codes "if") (codes "endif"))
       (λ span p. rules.If p.0 p.1.0 p.1.1 span)
 
   sound_all : SoundForm r.forall g.forall
@@ -127,30 +127,30 @@ module _ (k : OfTerms) (n : ℕ) (s : is_open n ≡ true → Sound (r.inside n) 
       f.sound_formed (f.sound_opened (is_open n) (sound_forall k n s starts) (inl (k.ranges.empty any n)) (codes "forall"))
       (λ span p. rules.Forall p.0 p.1.0 p.1.1 span)
 
-  sound_choose : SoundForm r.choice g.choice
-  unfolding r.choice
-  sound_choose = f.sound_formed (f.sound_opened (is_open n) (sound_choice k n s starts) (inl (k.ranges.empty any n)) (codes "choose")) choose_of
+  sound_choose : SoundForm r.choose_rule g.choose_rule
+  unfolding r.choose_rule
+  sound_choose = f.sound_formed (f.sound_opened (is_open n) (sound_choose_rule k n s starts) (inl (k.ranges.empty any n)) (codes "choose")) choose_of
 
-  sound_let : SoundForm r.binding g.binding
-  unfolding r.binding
+  sound_let : SoundForm r.let_rule g.let_rule
+  unfolding r.let_rule
   sound_let =
-      f.sound_formed (f.sound_enclosed (is_open n) (sound_binding k n s starts) (inl (k.binds.empty any n)) (codes "let") (codes "endlet"))
+      f.sound_formed (f.sound_enclosed (is_open n) (sound_let_rule k n s starts) (inl (k.binds.empty any n)) (codes "let") (codes "endlet"))
       (λ span p. rules.Let p.0 p.1 span)
 
-  sound_switch : SoundForm r.selection g.selection
-  unfolding r.selection r.case
+  sound_switch : SoundForm r.switch_rule g.switch_rule
+  unfolding r.switch_rule r.case
   sound_switch =
-      f.sound_formed (f.sound_enclosed (is_open n) (sound_selection k n s starts) (inl (k.inner.empty any n)) (codes "switch") (codes "endswitch"))
+      f.sound_formed (f.sound_enclosed (is_open n) (sound_switch_rule k n s starts) (inl (k.inner.empty any n)) (codes "switch") (codes "endswitch"))
       (λ span p. rules.Switch p.0 p.1.0 p.1.1 span)
 
-  sound_extend : SoundForm r.extension g.extension
-  unfolding r.extension
-  sound_extend = f.sound_formed (f.sound_opened (is_open n) (sound_extension k n s starts) (inl (inl refl)) (codes "extend")) extend_of
+  sound_extend : SoundForm r.extend_rule g.extend_rule
+  unfolding r.extend_rule
+  sound_extend = f.sound_formed (f.sound_opened (is_open n) (sound_extend_rule k n s starts) (inl (inl refl)) (codes "extend")) extend_of
 
   pub sound_form : SoundForm r.rule_form g.rule_form
   unfolding r.rule_form
   sound_form =
-      sound-either (is (keyword (codes "skip"))) sound_skip (sound-either (is id) sound_named
+      sound-either (is (keyword (codes "skip"))) sound_skip (sound-either (is id) sound_call_or_update
       (sound-either (is (keyword (codes "par"))) sound_par (sound-either (is (keyword (codes "seq"))) sound_seq
       (sound-either (is (keyword (codes "if"))) sound_if (sound-either (is (keyword (codes "forall"))) sound_all
       (sound-either (is (keyword (codes "choose"))) sound_choose (sound-either (is (keyword (codes "let"))) sound_let
@@ -170,48 +170,48 @@ module _ (value : Language Token TermTree) (call : Language Token TermsTree) (in
 
   -- a form, and all those after it
   abbrev last_switch : Language Token RuleTree
-  last_switch = form g.selection either form g.extension
+  last_switch = form g.switch_rule either form g.extend_rule
 
   abbrev last_let : Language Token RuleTree
-  last_let = form g.binding either last_switch
+  last_let = form g.let_rule either last_switch
 
   abbrev last_choose : Language Token RuleTree
-  last_choose = form g.choice either last_let
+  last_choose = form g.choose_rule either last_let
 
   abbrev last_forall : Language Token RuleTree
   last_forall = form g.forall either last_choose
 
   abbrev last_if : Language Token RuleTree
-  last_if = form g.conditional either last_forall
+  last_if = form g.if_rule either last_forall
 
   abbrev last_seq : Language Token RuleTree
-  last_seq = form g.sequence either last_if
+  last_seq = form g.seq_rule either last_if
 
   abbrev last_par : Language Token RuleTree
-  last_par = form g.block either last_seq
+  last_par = form g.par_rule either last_seq
 
-  abbrev last_named : Language Token RuleTree
-  last_named = form g.named either last_par
+  abbrev last_call_or_update : Language Token RuleTree
+  last_call_or_update = form g.call_or_update either last_par
 
   form_starts : f.Starts starts_rule (g.rule_form true value call inner rule)
   form_starts =
-      f.starts_either (is (keyword (codes "skip"))) (among parts.from_named) (form g.skip) last_named
+      f.starts_either (is (keyword (codes "skip"))) (among parts.from_call_or_update) (form g.skip) last_call_or_update
       (λ t h. inr (t, h, refl))
-      (f.starts_either (is id) (among parts.from_par) (form g.named) last_par
+      (f.starts_either (is id) (among parts.from_par) (form g.call_or_update) last_par
       (λ t h. inl (inr (t, h, refl)))
-      (f.starts_either (is (keyword (codes "par"))) (among parts.from_seq) (form g.block) last_seq
+      (f.starts_either (is (keyword (codes "par"))) (among parts.from_seq) (form g.par_rule) last_seq
       (λ t h. inr (t, [], refl, h, refl, inl (inl of_rule)))
-      (f.starts_either (is (keyword (codes "seq"))) (among parts.from_if) (form g.sequence) last_if
+      (f.starts_either (is (keyword (codes "seq"))) (among parts.from_if) (form g.seq_rule) last_if
       (λ t h. inr (t, [], refl, h, refl, inl (inl of_rule)))
-      (f.starts_either (is (keyword (codes "if"))) (among parts.from_forall) (form g.conditional) last_forall
+      (f.starts_either (is (keyword (codes "if"))) (among parts.from_forall) (form g.if_rule) last_forall
       (λ t h. inr (t, [], refl, h, refl, inl (inl of_term)))
       (f.starts_either (is (keyword (codes "forall"))) (among parts.from_choose) (form g.forall) last_choose
       (λ t h. inr (t, [], refl, h, refl, inl of_ranges))
-      (f.starts_either (is (keyword (codes "choose"))) (among parts.from_let) (form g.choice) last_let
+      (f.starts_either (is (keyword (codes "choose"))) (among parts.from_let) (form g.choose_rule) last_let
       (λ t h. inr (t, [], refl, h, refl, inl of_ranges))
-      (f.starts_either (is (keyword (codes "let"))) (among parts.from_switch) (form g.binding) last_switch
+      (f.starts_either (is (keyword (codes "let"))) (among parts.from_switch) (form g.let_rule) last_switch
       (λ t h. inr (t, [], refl, h, refl, inl (inl of_binds)))
-      (f.starts_either (is (keyword (codes "switch"))) (is (keyword (codes "extend"))) (form g.selection) (form g.extension)
+      (f.starts_either (is (keyword (codes "switch"))) (is (keyword (codes "extend"))) (form g.switch_rule) (form g.extend_rule)
       (λ t h. inr (t, [], refl, h, refl, inl (inl of_term))) (λ t h. inr (t, [], refl, h, refl, inl (inl refl)))))))))))
 
 -- ---- rules to any depth

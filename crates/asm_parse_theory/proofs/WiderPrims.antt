@@ -57,14 +57,14 @@ module _ (room : Bool) {L M : Forms} (f : room ≡ true → WiderParts L M) wher
       wider_formed (wider_bracketed room room (λ o. o) (λ o. wider-maybe (wider_arguments (f o))) (codes "[") (codes "]"))
       (λ span items. terms.Seq items span)
 
-  wider_conditional : Wider (g.conditional room L) (g.conditional room M)
-  wider_conditional =
+  wider_if_term : Wider (g.if_term room L) (g.if_term room M)
+  wider_if_term =
       wider_formed (wider_enclosed room room (λ o. o) (λ o. wider-then ((f o).line g.term) (wider-then (wider_after_word ((f o).line g.term) (codes "then"))
       (wider-maybe (wider_after_word ((f o).line g.term) (codes "else"))))) (codes "if") (codes "endif"))
       (λ span p. terms.If p.0 p.1.0 p.1.1 span)
 
-  wider_binding : Wider (g.binding room L) (g.binding room M)
-  wider_binding =
+  wider_let_term : Wider (g.let_term room L) (g.let_term room M)
+  wider_let_term =
       wider_formed (wider_enclosed room room (λ o. o) (λ o. wider-then (f o).binds (wider_after_word ((f o).line g.term) (codes "in")))
       (codes "let") (codes "endlet")) (λ span p. terms.Let p.0 p.1 span)
 
@@ -72,8 +72,8 @@ module _ (room : Bool) {L M : Forms} (f : room ≡ true → WiderParts L M) wher
   wider_case o =
       wider-made case_of (wider_after_word (wider-then ((f o).line g.term) (wider_after_sign ((f o).line g.term) (codes ":"))) (codes "case"))
 
-  wider_selection : Wider (g.selection room L) (g.selection room M)
-  wider_selection =
+  wider_switch_term : Wider (g.switch_term room L) (g.switch_term room M)
+  wider_switch_term =
       wider_formed (wider_enclosed room room (λ o. o) (λ o. wider-then ((f o).line g.term) (wider-then (wider_many (wider_case o))
       (wider-maybe (wider_after_word ((f o).line g.term) (codes "otherwise"))))) (codes "switch") (codes "endswitch"))
       (λ span p. terms.Switch p.0 p.1.0 p.1.1 span)
@@ -81,4 +81,4 @@ module _ (room : Bool) {L M : Forms} (f : room ≡ true → WiderParts L M) wher
   pub wider_prim : Wider (g.prim_form room L) (g.prim_form room M)
   wider_prim =
       wider-either wider_plain (wider-either wider_name (wider-either wider_parenthesis (wider-either wider_set
-      (wider-either wider_sequence (wider-either wider_conditional (wider-either wider_binding wider_selection))))))
+      (wider-either wider_sequence (wider-either wider_if_term (wider-either wider_let_term wider_switch_term))))))

@@ -1,6 +1,6 @@
 use Rattle.std.proofs.Common.{sym, arith}
 use Rattle.asm_parse.specs.declared.foreign.Next.TheVariants.{Standard, Foreign, Nothing}
-use Rattle.asm_parse.proofs.Imports.{turn_finds, turns_end}
+use Rattle.asm_parse.proofs.ImportTurns.{turn_finds, turns_end}
 use Rattle.asm_parse.proofs.foreign.foreign_among.Goals as goal
 
 pub returns-in-Foreign : goal.returns-in-Foreign

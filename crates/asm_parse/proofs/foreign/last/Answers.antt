@@ -1,4 +1,4 @@
-use Rattle.asm_parse.proofs.Imports.{last_is}
+use Rattle.asm_parse.proofs.ImportTurns.{last_is}
 use Rattle.asm_parse.proofs.foreign.last.Goals as goal
 
 pub returns-in-Some : goal.returns-in-Some

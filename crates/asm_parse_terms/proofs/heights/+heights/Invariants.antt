@@ -1,7 +1,7 @@
 use Rattle.std.proofs.Common.{◌≡◌, ◌+◌, ◌*◌, drop, nat_le}
 use Rattle.std.specs.List.{list_all}
 use Rattle.asm_syntax.specs.Heights.{height}
-use Rattle.asm_parse_terms.specs.Parts.{bind_height, case_height}
+use Rattle.asm_parse_terms.specs.HeightParts.{bind_height, case_height}
 use Rattle.asm_parse_terms.proofs.heights.+heights.Given as goal
 
 abbrev pub invariant-all_within-loop-term : goal.invariant-all_within-loop-term

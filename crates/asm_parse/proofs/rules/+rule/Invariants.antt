@@ -1,4 +1,0 @@
-use Rattle.asm_parse.proofs.rules.+rule.Given as goal
-
-abbrev pub decreases-rule : goal.decreases-rule
-decreases-rule l = l.depth

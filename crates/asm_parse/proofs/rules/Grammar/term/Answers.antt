@@ -1,5 +1,0 @@
-use Rattle.asm_parse.proofs.Nested.{term_deeper}
-use Rattle.asm_parse.proofs.rules.Grammar.term.Goals as goal
-
-pub returns : goal.returns
-returns g c = rw (term_deeper c.args.self.now.depth c.args.tokens.now c.requires.open) c.term.ensures

@@ -1,0 +1,12 @@
+use Rattle.std.proofs.Common.{◌≡◌, ◌-◌, length, codes}
+use Rattle.asm_grammar.specs.Parser.{climb}
+use Rattle.asm_syntax.specs.Forms.{any, one_more}
+use Rattle.asm_syntax.specs.Marks.{is, symbol}
+use Rattle.asm_parse_theory.specs.Forms.{after_sign}
+use Rattle.asm_parse_theory.specs.Domains.{int}
+use Rattle.asm_parse_definitions.proofs.integer_sets.further_integers.Given as goal
+
+abbrev pub invariant-loop-turn : goal.invariant-loop-turn
+invariant-loop-turn l =
+    climb any one_more (is (symbol (codes ","))) (after_sign (codes ",") int) (length l.fn.tokens) l.fn.found l.fn.tokens
+    ≡ climb any one_more (is (symbol (codes ","))) (after_sign (codes ",") int) (l._turn-end - l._turn) l.found l.tokens

@@ -1,0 +1,15 @@
+use Rattle.std.proofs.Common.{◌≡◌, true, refl, rules}
+use Rattle.std.specs.Prelude.{codes}
+use Rattle.asm_grammar.specs.Parser.{sees}
+use Rattle.asm_syntax.specs.Marks.{is, keyword}
+use Rattle.asm_syntax.specs.Forms.{any, one_more}
+use Rattle.asm_syntax.specs.Forms.{is_open}
+use Rattle.asm_parse_theory.specs.Terms.{inside, case}
+use Rattle.asm_parse_cursor.proofs.Turns.{turn_keeps}
+use Rattle.asm_parse_parts.proofs.grammar.Grammar.more_cases.Goals as goal
+
+pub loop-turn-preserved : goal.loop-turn-preserved
+loop-turn-preserved g c =
+    let seen : sees (is (keyword (codes "case"))) c.loop-turn.tokens ≡ true = search rules in
+    turn_keeps any one_more (is (keyword (codes "case"))) (case (is_open c.args.self.now.depth) (inside c.args.self.now.depth)) _ _ c.loop-turn._turn c.loop-turn.found _ c.loop-turn.tokens _ _ c.loop-turn-test.true c.loop-turn.invariant seen refl
+    c.in_ok-case.ensures c.in_ok-push.ensures.ok

@@ -1,0 +1,13 @@
+use Rattle.std.proofs.Common.{◌≡◌, ◌-◌, length}
+use Rattle.std.specs.Prelude.{codes}
+use Rattle.asm_grammar.specs.Parser.{climb}
+use Rattle.asm_syntax.specs.Marks.{is, keyword}
+use Rattle.asm_syntax.specs.Forms.{any, one_more}
+use Rattle.asm_syntax.specs.Forms.{is_open}
+use Rattle.asm_parse_theory.specs.Terms.{inside, case}
+use Rattle.asm_parse_parts.proofs.grammar.Grammar.more_cases.Given as goal
+
+abbrev pub invariant-loop-turn : goal.invariant-loop-turn
+invariant-loop-turn g l =
+    climb any one_more (is (keyword (codes "case"))) (case (is_open l.self.depth) (inside l.self.depth)) (length l.fn.tokens) l.fn.found l.fn.tokens
+    ≡ climb any one_more (is (keyword (codes "case"))) (case (is_open l.self.depth) (inside l.self.depth)) (l._turn-end - l._turn) l.found l.tokens

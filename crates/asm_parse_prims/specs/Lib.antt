@@ -1,0 +1,3 @@
+pub mod Constructs
+pub mod Sets
+pub mod Starts

@@ -1,0 +1,4 @@
+pub mod Turns
+pub mod Enclosed
+pub mod Named
+pub mod Nested

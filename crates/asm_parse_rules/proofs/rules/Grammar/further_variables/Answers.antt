@@ -1,0 +1,23 @@
+use Rattle.std.proofs.Common.{◌≡◌, ◌∙◌, true, false, rules, codes}
+use Rattle.asm_grammar.specs.Parser.{sees, expect}
+use Rattle.asm_syntax.specs.Marks.{is, symbol, variable}
+use Rattle.asm_parse_theory.specs.Forms.{after_sign}
+use Rattle.asm_parse_rules.proofs.Turns.{turn_keeps, turn_fails, turn_ends}
+use Rattle.asm_parse_rules.proofs.rules.Grammar.further_variables.Goals as goal
+
+pub loop-turn-preserved : goal.loop-turn-preserved
+loop-turn-preserved g c =
+    let seen : sees (is (symbol (codes ","))) c.loop-turn.tokens ≡ true = search rules in
+    turn_keeps (is (symbol (codes ","))) (after_sign (codes ",") (expect (is variable))) _ _ c.loop-turn._turn c.loop-turn.found _ c.loop-turn.tokens _ _ c.loop-turn-test.true c.loop-turn.invariant seen
+    c.in-Ok.ensures c.in_ok-push.ensures.ok
+
+pub returns-in-Err : goal.returns-in-Err
+returns-in-Err g c =
+    let seen : sees (is (symbol (codes ","))) c.loop-turn.tokens ≡ true = search rules in
+    turn_fails (is (symbol (codes ","))) (after_sign (codes ",") (expect (is variable))) _ _ c.loop-turn._turn c.loop-turn.found c.loop-turn.tokens _ _ c.loop-turn-test.true c.loop-turn.invariant seen
+    c.in-Err.ensures
+
+pub returns-then-not-sees_sign : goal.returns-then-not-sees_sign
+returns-then-not-sees_sign g c =
+    let seen : sees (is (symbol (codes ","))) c.loop-turn.tokens ≡ false = search rules in
+    c.loop-turn.invariant ∙ turn_ends (is (symbol (codes ","))) (after_sign (codes ",") (expect (is variable))) _ c.loop-turn.found c.loop-turn.tokens seen

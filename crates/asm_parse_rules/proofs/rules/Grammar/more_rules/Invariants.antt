@@ -1,0 +1,11 @@
+use Rattle.std.proofs.Common.{◌≡◌, ◌-◌, length}
+use Rattle.asm_grammar.specs.Parser.{climb}
+use Rattle.asm_syntax.specs.Forms.{any, one_more}
+use Rattle.asm_parse_theory.specs.Firsts.{starts_rule}
+use Rattle.asm_parse_theory.specs.Rules.{inside}
+use Rattle.asm_parse_rules.proofs.rules.Grammar.more_rules.Given as goal
+
+abbrev pub invariant-loop-turn : goal.invariant-loop-turn
+invariant-loop-turn g l =
+    climb any one_more starts_rule (inside l.self.depth) (length l.fn.tokens) l.fn.found l.fn.tokens
+    ≡ climb any one_more starts_rule (inside l.self.depth) (l._turn-end - l._turn) l.found l.tokens

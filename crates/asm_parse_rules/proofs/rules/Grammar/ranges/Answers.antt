@@ -1,0 +1,5 @@
+use Rattle.asm_parse_rules.proofs.Nested.{ranges_deeper}
+use Rattle.asm_parse_rules.proofs.rules.Grammar.ranges.Goals as goal
+
+pub returns : goal.returns
+returns g c = rw (ranges_deeper c.args.self.now.depth c.args.tokens.now c.requires.open) c.ranges-2.ensures

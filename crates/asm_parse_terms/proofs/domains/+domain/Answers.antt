@@ -1,6 +1,0 @@
-use Rattle.asm_parse_theory.specs.Domains.{domain}
-use Rattle.asm_parse_terms.proofs.domains.+domain.Goals as goal
-
-pub returns : goal.returns
-unfolding domain
-returns t c = c.form.ensures

@@ -1,4 +1,0 @@
-use Rattle.asm_parse_terms.proofs.domains.+domain.Given as goal
-
-abbrev pub decreases-domain : goal.decreases-domain
-decreases-domain l = l.depth

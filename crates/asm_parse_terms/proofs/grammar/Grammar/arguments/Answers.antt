@@ -1,5 +1,0 @@
-use Rattle.asm_parse_terms.proofs.Deeper.{term_deeper}
-use Rattle.asm_parse_terms.proofs.grammar.Grammar.arguments.Goals as goal
-
-pub returns : goal.returns
-returns g c = rw (term_deeper c.args.self.now.depth c.requires.open) c.arguments.ensures

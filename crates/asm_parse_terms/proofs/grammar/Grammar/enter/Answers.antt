@@ -1,5 +1,0 @@
-use Rattle.asm_parse_terms.proofs.Opened.{is_open_is}
-use Rattle.asm_parse_terms.proofs.grammar.Grammar.enter.Goals as goal
-
-pub returns-clause-reads : goal.returns-clause-reads
-returns-clause-reads g c = rw (is_open_is c.args.self.now.depth) c.enter.ensures
