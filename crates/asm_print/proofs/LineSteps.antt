@@ -13,13 +13,13 @@ use Rattle.asm_syntax.specs.declared.tree.InitTree.{InitTree}
 use Rattle.asm_syntax.specs.declared.tree.ModelTree.{ModelTree}
 use Rattle.asm_syntax.specs.Written.{Words, word_of, single, after_each, if_there, comma, domain_words, params_words, int_words, term_writing}
 use Rattle.asm_syntax.specs.Canonical.{typed_words, rule_words, init_lines, model_lines}
-use Rattle.asm_print.specs.declared.writer.Writer.{Writer}
-use Rattle.asm_print.specs.Lines.{with_word, with_words, ended, with_line, with_lines}
-use Rattle.asm_print.specs.Parts.{led_words}
+use Rattle.asm_print_terms.specs.declared.writer.Writer.{Writer}
+use Rattle.asm_print_terms.specs.Lines.{with_word, with_words, ended, with_line, with_lines}
+use Rattle.asm_print_terms.specs.Parts.{led_words}
 use Rattle.asm_print.specs.RuleParts.{led_rule_words}
 use Rattle.asm_print.specs.LineParts.{enum_words, subset_interval_words, subset_integers_words, left_words, function_words, rule_def_words, over_words, invariant_words, decl_line, def_line, start_line, signature_lines, definitions_lines, main_words}
-use Rattle.asm_print.proofs.Words.{with_words-append}
-use Rattle.asm_print.proofs.Texts.{writes_line, with_lines-append}
+use Rattle.asm_print_terms.proofs.Words.{with_words-append}
+use Rattle.asm_print_terms.proofs.Texts.{writes_line, with_lines-append}
 
 module _ (w : Writer) where
   -- ---- declarations

@@ -9,13 +9,13 @@ use Rattle.asm_syntax.specs.declared.tree.BindsTree.{BindsTree}
 use Rattle.asm_syntax.specs.declared.tree.RuleTree.{RuleTree}
 use Rattle.asm_syntax.specs.declared.tree.RuleTree.TheViews.{out-RuleCaseTree, the_lemmas}
 use Rattle.asm_syntax.specs.declared.tree.RuleCaseTree.{RuleCaseTree}
-use Rattle.asm_syntax.specs.Written.{after_each, single, comma, word_of, ranges_words, binds_words}
+use Rattle.asm_syntax.specs.Written.{after_each, single, comma, word_of, ranges_words}
 use Rattle.asm_syntax.specs.Canonical.{guard_words, rule_words}
-use Rattle.asm_print.specs.declared.writer.Writer.{Writer}
-use Rattle.asm_print.specs.Lines.{with_word, with_words}
-use Rattle.asm_print.specs.Parts.{led_words, args_words}
-use Rattle.asm_print.specs.RuleParts.{rule_case_words, led_rule_words, enclosed_rule_words, other_rule_words, rest_rule_words, rules_words, rule_cases_words, quantifier_words, extend_head, update_words, block_words, if_rule_words, forall_words, choose_words, let_rule_words, switch_rule_words, extend_words}
-use Rattle.asm_print.proofs.Words.{with_words-append}
+use Rattle.asm_print_terms.specs.declared.writer.Writer.{Writer}
+use Rattle.asm_print_terms.specs.Lines.{with_word, with_words}
+use Rattle.asm_print_terms.specs.Parts.{led_words, args_words, items_words, let_words}
+use Rattle.asm_print.specs.RuleParts.{rule_case_words, led_rule_words, enclosed_rule_words, other_rule_words, rest_rule_words, rules_words, rule_cases_words, last_rules_words, quantifier_words, extend_head, call_rule_words, update_rule_words, par_rule_words, seq_rule_words, if_rule_words, forall_rule_words, choose_rule_words, let_rule_words, switch_rule_words, extend_rule_words}
+use Rattle.asm_print_terms.proofs.Words.{with_words-append}
 use Rattle.asm_print.proofs.RuleWords.{rule_words-out, rule_case_words-out}
 
 module _ (w : Writer) where
@@ -60,15 +60,29 @@ module _ (w : Writer) where
   unfolding extend_head
   writes_extend_head name first others = refl
 
-  pub writes_update : (name : Token) (args : Option TermsTree) (value : TermTree)
-      → with_words w (update_words name args value) ≡ with_words (with_words (with_word w (word_of name)) (args_words args)) (led_words (codes ":=") value)
-  unfolding update_words
-  writes_update name args value = with_words-append (with_word w (word_of name)) (args_words args) (led_words (codes ":=") value)
+  pub writes_last_rules : (rs : List RuleTree) (last : List ℕ) → with_words w (last_rules_words rs last) ≡ with_word (with_words w (rules_words rs)) last
+  unfolding last_rules_words
+  writes_last_rules rs last = with_words-append w (rules_words rs) (last ∷ [])
 
-  pub writes_block : (word : List ℕ) (first : RuleTree) (others : List RuleTree) (last : List ℕ)
-      → with_words w (block_words word first others last) ≡ with_word (with_words (with_words w (led_rule_words word first)) (rules_words others)) last
-  unfolding block_words led_rule_words
-  writes_block word first others last = simp with_words-append
+  pub writes_call_rule : (name : Token) (args : Option TermsTree)
+      → with_words w (call_rule_words name args) ≡ with_words (with_word w (word_of name)) (items_words (codes "[") args (codes "]"))
+  unfolding call_rule_words
+  writes_call_rule name args = refl
+
+  pub writes_update_rule : (name : Token) (args : Option TermsTree) (value : TermTree)
+      → with_words w (update_rule_words name args value) ≡ with_words (with_words (with_word w (word_of name)) (args_words args)) (led_words (codes ":=") value)
+  unfolding update_rule_words
+  writes_update_rule name args value = with_words-append (with_word w (word_of name)) (args_words args) (led_words (codes ":=") value)
+
+  pub writes_par_rule : (first : RuleTree) (others : List RuleTree)
+      → with_words w (par_rule_words first others) ≡ with_words (with_words w (led_rule_words (codes "par") first)) (last_rules_words others (codes "endpar"))
+  unfolding par_rule_words
+  writes_par_rule first others = with_words-append w (led_rule_words (codes "par") first) (last_rules_words others (codes "endpar"))
+
+  pub writes_seq_rule : (first : RuleTree) (others : List RuleTree)
+      → with_words w (seq_rule_words first others) ≡ with_words (with_words w (led_rule_words (codes "seq") first)) (last_rules_words others (codes "endseq"))
+  unfolding seq_rule_words
+  writes_seq_rule first others = with_words-append w (led_rule_words (codes "seq") first) (last_rules_words others (codes "endseq"))
 
   pub writes_if_rule : (guard : TermTree) (first : RuleTree) (other : Option RuleTree)
       → with_words w (if_rule_words guard first other)
@@ -76,19 +90,19 @@ module _ (w : Writer) where
   unfolding if_rule_words
   writes_if_rule guard first other = simp with_words-append
 
-  pub writes_forall : (ranges : RangesTree) (guard : Option TermTree) (body : RuleTree)
-      → with_words w (forall_words ranges guard body) ≡ with_words (with_words w (quantifier_words (codes "forall") ranges guard)) (led_rule_words (codes "do") body)
-  unfolding forall_words
-  writes_forall ranges guard body = simp with_words-append
+  pub writes_forall_rule : (ranges : RangesTree) (guard : Option TermTree) (body : RuleTree)
+      → with_words w (forall_rule_words ranges guard body) ≡ with_words (with_words w (quantifier_words (codes "forall") ranges guard)) (led_rule_words (codes "do") body)
+  unfolding forall_rule_words
+  writes_forall_rule ranges guard body = simp with_words-append
 
-  pub writes_choose : (ranges : RangesTree) (guard : Option TermTree) (body : RuleTree) (other : Option RuleTree)
-      → with_words w (choose_words ranges guard body other)
+  pub writes_choose_rule : (ranges : RangesTree) (guard : Option TermTree) (body : RuleTree) (other : Option RuleTree)
+      → with_words w (choose_rule_words ranges guard body other)
       ≡ with_words (with_words (with_words w (quantifier_words (codes "choose") ranges guard)) (led_rule_words (codes "do") body)) (other_rule_words (codes "ifnone") other)
-  unfolding choose_words
-  writes_choose ranges guard body other = simp with_words-append
+  unfolding choose_rule_words
+  writes_choose_rule ranges guard body other = simp with_words-append
 
   pub writes_let_rule : (binds : BindsTree) (body : RuleTree)
-      → with_words w (let_rule_words binds body) ≡ with_words (with_words (with_word w (codes "let")) (binds_words binds)) (enclosed_rule_words (codes "in") body (codes "endlet"))
+      → with_words w (let_rule_words binds body) ≡ with_words (with_words w (let_words binds)) (enclosed_rule_words (codes "in") body (codes "endlet"))
   unfolding let_rule_words
   writes_let_rule binds body = simp with_words-append
 
@@ -98,10 +112,10 @@ module _ (w : Writer) where
   unfolding switch_rule_words
   writes_switch_rule value cases other = simp with_words-append
 
-  pub writes_extend : (name first : Token) (others : List Token) (body : RuleTree)
-      → with_words w (extend_words name first others body) ≡ with_words (with_words w (extend_head name first others)) (led_rule_words (codes "do") body)
-  unfolding extend_words
-  writes_extend name first others body = simp with_words-append
+  pub writes_extend_rule : (name first : Token) (others : List Token) (body : RuleTree)
+      → with_words w (extend_rule_words name first others body) ≡ with_words (with_words w (extend_head name first others)) (led_rule_words (codes "do") body)
+  unfolding extend_rule_words
+  writes_extend_rule name first others body = simp with_words-append
 
   -- ---- one more of a list
 
@@ -137,16 +151,22 @@ module _ (w : Writer) where
 
 pub ruleset rule_steps = (
   rule_words-out,
-  writes_update,
-  writes_block,
+  writes_par_rule,
+  writes_seq_rule,
   writes_if_rule,
-  writes_forall,
-  writes_choose,
+  writes_forall_rule,
+  writes_choose_rule,
   writes_let_rule,
   writes_switch_rule,
-  writes_extend,
+  writes_extend_rule,
   the_lemmas,
 )
+
+pub ruleset call_steps = (writes_call_rule)
+
+pub ruleset update_steps = (writes_update_rule)
+
+pub ruleset last_rules_steps = (writes_last_rules, the_lemmas)
 
 pub ruleset led_rule_steps = (writes_led_rule, the_lemmas)
 

@@ -8,23 +8,30 @@ use Rattle.asm_syntax.specs.declared.tree.RuleTree.{RuleTree}
 use Rattle.asm_syntax.specs.declared.tree.DeclTree.{DeclTree}
 use Rattle.asm_syntax.specs.declared.tree.DefTree.{DefTree}
 use Rattle.asm_syntax.specs.declared.tree.StartTree.{StartTree}
-use Rattle.asm_syntax.specs.Written.{Words, word_of, single, after_each, if_there, comma, params_words, int_words, term_words}
-use Rattle.asm_syntax.specs.Canonical.{Lines, equation_words, rule_words, decl_words, def_words, start_words}
-use Rattle.asm_print.specs.Parts.{led_words}
+use Rattle.asm_syntax.specs.Written.{Words, word_of, single, after_each, if_there}
+use Rattle.asm_syntax.specs.Written.{comma, params_words, int_words, term_words}
+use Rattle.asm_syntax.specs.Canonical.{Lines, equation_words, rule_words}
+use Rattle.asm_syntax.specs.Canonical.{decl_words, def_words, start_words}
+use Rattle.asm_print_terms.specs.Parts.{led_words}
 
 -- ---- declarations and definitions
 
 unfoldable pub enum_words : Token → Token → List Token → Words
 enum_words name first others =
-    codes "enum" ∷ codes "domain" ∷ word_of name ∷ codes "=" ∷ codes "{" ∷ word_of first ∷ after_each (codes "|") single others ++ codes "}" ∷ []
+    codes "enum" ∷ codes "domain" ∷ word_of name ∷ codes "=" ∷ codes "{" ∷ word_of first
+    ∷ after_each (codes "|") single others ++ codes "}" ∷ []
 
 unfoldable pub subset_interval_words : Token → IntTree → IntTree → Words
-subset_interval_words name first last = codes "domain" ∷ word_of name ∷ codes "=" ∷ codes "{" ∷ int_words first ++ codes ".." ∷ int_words last ++ codes "}" ∷ []
+subset_interval_words name first last =
+    codes "domain" ∷ word_of name ∷ codes "=" ∷ codes "{"
+    ∷ int_words first ++ codes ".." ∷ int_words last ++ codes "}" ∷ []
 
 unfoldable pub subset_integers_words : Token → IntTree → List IntTree → Words
-subset_integers_words name first others = codes "domain" ∷ word_of name ∷ codes "=" ∷ codes "{" ∷ int_words first ++ after_each comma int_words others ++ codes "}" ∷ []
+subset_integers_words name first others =
+    codes "domain" ∷ word_of name ∷ codes "=" ∷ codes "{"
+    ∷ int_words first ++ after_each comma int_words others ++ codes "}" ∷ []
 
--- what stands left of the `=`
+-- what is left of the `=`
 unfoldable pub left_words : List ℕ → Token → Option ParamsTree → Words
 left_words word name given = word ∷ word_of name ∷ if_there [] params_words given
 
@@ -39,7 +46,9 @@ unfoldable pub over_words : Token → List Token → Words
 over_words first others = codes "over" ∷ word_of first ∷ after_each comma single others
 
 unfoldable pub invariant_words : Option Token → Token → List Token → TermTree → Words
-invariant_words name first others t = codes "invariant" ∷ if_there [] single name ++ over_words first others ++ led_words (codes ":") t
+invariant_words name first others t =
+    codes "invariant" ∷ if_there [] single name
+    ++ over_words first others ++ led_words (codes ":") t
 
 -- ---- lines
 
@@ -55,7 +64,8 @@ start_line s = start_words s
 -- ---- models
 
 unfoldable pub signature_lines : Token → List DeclTree → Lines
-signature_lines name decls = (codes "asm" ∷ single name) ∷ (codes "signature" ∷ codes ":" ∷ []) ∷ map decl_words decls
+signature_lines name decls =
+    (codes "asm" ∷ single name) ∷ (codes "signature" ∷ codes ":" ∷ []) ∷ map decl_words decls
 
 unfoldable pub definitions_lines : List DefTree → Lines
 definitions_lines defs = (codes "definitions" ∷ codes ":" ∷ []) ∷ map def_words defs

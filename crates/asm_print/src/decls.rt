@@ -1,12 +1,12 @@
 //! Declarations of the signature, each a line.
-ghost use Rattle.std.specs.Prelude.{◌≡◌, map, OnOk};
+ghost use Rattle.std.specs.Prelude.{◌≡◌, [], ◌∷◌, codes, map, OnOk};
+ghost use Rattle.asm_syntax.specs.Written.{word_of};
 ghost use Rattle.asm_syntax.specs.Canonical.{typed_words};
-ghost use Rattle.asm_print.specs.Lines.{with_words, with_lines};
+ghost use Rattle.asm_print_terms.specs.Lines.{with_words, with_lines};
 ghost use Rattle.asm_print.specs.LineParts.{enum_words, decl_line};
 
-use crate::domains::{put_domain, put_tokens_behind};
-use crate::writer::Writer;
-use asm_syntax::{DeclTree, DomainTree, Token};
+use asm_print_terms::{Writer, put_domain, put_more_tokens};
+use asm_syntax::{Boxed, DeclTree, DomainTree, Token};
 use std::alloc::AllocError;
 
 /// ID ":" domain ["->" domain]
@@ -15,7 +15,7 @@ fn put_typed(
     out: &mut Writer,
     name: &Token,
     first: &DomainTree,
-    next: &Option<DomainTree>,
+    next: &Option<Boxed<DomainTree>>,
 ) -> Result<(), AllocError>
     ensures { OnOk result (out.new ≡ with_words out.old (typed_words name.now first.now next.now)) }
 {
@@ -25,10 +25,21 @@ fn put_typed(
     match next {
         Some(next) => {
             out.put("->")?;
-            put_domain(out, next)
+            put_domain(out, next.get())
         }
         None => Ok(()),
     }
+}
+
+/// "domain" ID "=" "{"
+pub(crate) fn open_domain(out: &mut Writer, name: &Token) -> Result<(), AllocError>
+    ensures { OnOk result (out.new ≡ with_words out.old
+        (codes "domain" ∷ word_of name.now ∷ codes "=" ∷ codes "{" ∷ [])) }
+{
+    out.put("domain")?;
+    out.put_token(name)?;
+    out.put("=")?;
+    out.put("{")
 }
 
 /// "enum" "domain" ID "=" "{" ID {"|" ID} "}"
@@ -39,12 +50,13 @@ fn put_enum(
     first: &Token,
     others: &[Token],
 ) -> Result<(), AllocError>
-    ensures { OnOk result (out.new ≡ with_words out.old (enum_words name.now first.now others.now)) }
+    ensures { OnOk result
+        (out.new ≡ with_words out.old (enum_words name.now first.now others.now)) }
 {
     out.put("enum")?;
-    out.open_domain(name)?;
+    open_domain(out, name)?;
     out.put_token(first)?;
-    put_tokens_behind(out, "|", others)?;
+    put_more_tokens(out, "|", others)?;
     out.put("}")
 }
 
@@ -68,17 +80,17 @@ fn put_decl(out: &mut Writer, decl: &DeclTree) -> Result<(), AllocError>
         }
         DeclTree::Defined(kind, name, first, next, _) => {
             out.put(kind.as_str())?;
-            put_typed(out, name, first, next)
+            put_typed(out, name, first.get(), next)
         }
         DeclTree::Dynamic(kind, name, first, next, _) => {
             out.put(kind.as_str())?;
-            put_typed(out, name, first, next)
+            put_typed(out, name, first.get(), next)
         }
     }
 }
 
 /// Declarations, a line for each.
-#[tactic(auto, using(crate::proofs::Texts::line_steps))]
+#[tactic(auto, using(asm_print_terms::proofs::Texts::line_steps))]
 pub(crate) fn put_decls(out: &mut Writer, decls: &[DeclTree]) -> Result<(), AllocError>
     ensures { OnOk result (out.new ≡ with_lines out.old (map decl_line decls.now)) }
 {

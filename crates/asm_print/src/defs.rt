@@ -1,13 +1,12 @@
 //! Definitions and initial terms, each a line.
 ghost use Rattle.std.specs.Prelude.{◌≡◌, [], map, OnOk};
 ghost use Rattle.asm_syntax.specs.Written.{if_there, single};
-ghost use Rattle.asm_print.specs.Lines.{with_words, with_lines};
+ghost use Rattle.asm_print_terms.specs.Lines.{with_words, with_lines};
 ghost use Rattle.asm_print.specs.LineParts as parts;
 
-use crate::domains::{put_int, put_ints_behind, put_params, put_tokens_behind};
+use crate::decls::open_domain;
 use crate::rules::put_led_rule;
-use crate::terms::put_led;
-use crate::writer::Writer;
+use asm_print_terms::{Writer, put_int, put_led, put_more_ints, put_more_tokens, put_params};
 use asm_syntax::{DefTree, IntTree, ParamsTree, RuleTree, StartTree, TermTree, Token};
 use std::alloc::AllocError;
 
@@ -22,7 +21,7 @@ fn put_interval(
     ensures { OnOk result
         (out.new ≡ with_words out.old (parts.subset_interval_words name.now first.now last.now)) }
 {
-    out.open_domain(name)?;
+    open_domain(out, name)?;
     put_int(out, first)?;
     out.put("..")?;
     put_int(out, last)?;
@@ -40,9 +39,9 @@ fn put_integers(
     ensures { OnOk result
         (out.new ≡ with_words out.old (parts.subset_integers_words name.now first.now others.now)) }
 {
-    out.open_domain(name)?;
+    open_domain(out, name)?;
     put_int(out, first)?;
-    put_ints_behind(out, others)?;
+    put_more_ints(out, others)?;
     out.put("}")
 }
 
@@ -111,7 +110,7 @@ fn put_over(out: &mut Writer, first: &Token, others: &[Token]) -> Result<(), All
 {
     out.put("over")?;
     out.put_token(first)?;
-    put_tokens_behind(out, ",", others)
+    put_more_tokens(out, ",", others)
 }
 
 /// "invariant" [ID] "over" ID {"," ID} ":" term
@@ -142,16 +141,16 @@ fn put_def(out: &mut Writer, def: &DefTree) -> Result<(), AllocError>
         DefTree::Integers(name, first, others, _) => {
             put_integers(out, name, first, others.as_slice())
         }
-        DefTree::Function(name, params, term, _) => put_function(out, name, params, term),
-        DefTree::Rule(name, params, rule, _) => put_rule_def(out, name, params, rule),
+        DefTree::Function(name, params, term, _) => put_function(out, name, params, term.get()),
+        DefTree::Rule(name, params, rule, _) => put_rule_def(out, name, params, rule.get()),
         DefTree::Invariant(name, first, others, term, _) => {
-            put_invariant(out, name, first, others.as_slice(), term)
+            put_invariant(out, name, first, others.as_slice(), term.get())
         }
     }
 }
 
 /// Definitions, a line for each.
-#[tactic(auto, using(crate::proofs::Texts::line_steps))]
+#[tactic(auto, using(asm_print_terms::proofs::Texts::line_steps))]
 pub(crate) fn put_defs(out: &mut Writer, defs: &[DefTree]) -> Result<(), AllocError>
     ensures { OnOk result (out.new ≡ with_lines out.old (map parts.def_line defs.now)) }
 {
@@ -167,11 +166,11 @@ pub(crate) fn put_defs(out: &mut Writer, defs: &[DefTree]) -> Result<(), AllocEr
 fn put_start(out: &mut Writer, start: &StartTree) -> Result<(), AllocError>
     ensures { OnOk result (out.new ≡ with_words out.old (parts.start_line start.now)) }
 {
-    put_function(out, &start.function, &start.params, &start.term)
+    put_function(out, &start.function, &start.params, start.term.get())
 }
 
 /// Initial terms, a line for each.
-#[tactic(auto, using(crate::proofs::Texts::line_steps))]
+#[tactic(auto, using(asm_print_terms::proofs::Texts::line_steps))]
 pub(crate) fn put_starts(out: &mut Writer, starts: &[StartTree]) -> Result<(), AllocError>
     ensures { OnOk result (out.new ≡ with_lines out.old (map parts.start_line starts.now)) }
 {

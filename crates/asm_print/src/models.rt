@@ -2,18 +2,18 @@
 ghost use Rattle.std.specs.Prelude.{◌≡◌, [], ◌∷◌, codes, OnOk};
 ghost use Rattle.asm_syntax.specs.Written.{word_of};
 ghost use Rattle.asm_syntax.specs.Canonical.{init_lines, model_lines};
-ghost use Rattle.asm_print.specs.Lines.{with_line, with_lines};
+ghost use Rattle.asm_print_terms.specs.Lines.{with_line, with_lines};
 ghost use Rattle.asm_print.specs.LineParts.{signature_lines, definitions_lines, main_words};
 
 use crate::decls::put_decls;
 use crate::defs::{put_defs, put_starts};
 use crate::rules::put_led_rule;
-use crate::writer::Writer;
+use asm_print_terms::Writer;
 use asm_syntax::{DeclTree, DefTree, InitTree, ModelTree, RuleTree, Token};
 use std::alloc::AllocError;
 
 /// A line of a word and `:`.
-#[tactic(auto, using(crate::proofs::Texts::line_steps))]
+#[tactic(auto, using(asm_print_terms::proofs::Texts::line_steps))]
 fn put_heading(out: &mut Writer, word: &str) -> Result<(), AllocError>
     ensures { OnOk result (out.new ≡ with_line out.old (word.now ∷ codes ":" ∷ [])) }
 {
@@ -55,7 +55,7 @@ fn put_main(out: &mut Writer, name: &Token, rule: &RuleTree) -> Result<(), Alloc
 }
 
 /// "default" "init" ID ":"
-#[tactic(auto, using(crate::proofs::Texts::line_steps))]
+#[tactic(auto, using(asm_print_terms::proofs::Texts::line_steps))]
 fn put_init_heading(out: &mut Writer, name: &Token) -> Result<(), AllocError>
     ensures { OnOk result (out.new ≡ with_line out.old
         (codes "default" ∷ codes "init" ∷ word_of name.now ∷ codes ":" ∷ [])) }
@@ -87,6 +87,6 @@ pub(crate) fn put_model(out: &mut Writer, model: &ModelTree) -> Result<(), Alloc
 {
     put_signature(out, &model.name, model.decls.as_slice())?;
     put_definitions(out, model.defs.as_slice())?;
-    put_main(out, &model.rule_name, &model.rule)?;
+    put_main(out, &model.rule_name, model.rule.get())?;
     put_init(out, &model.init)
 }

@@ -36,9 +36,9 @@ back-dropped L = record {
   };
 }
 
-pub if_behind : {V : Type 0} (w : List ℕ) (f : V → Words) (o : Option V) → if_there (w ∷ []) f o ≡ if_there [] (λ x. w ∷ f x) o
-if_behind w f None = refl
-if_behind w f (Some x) = refl
+pub if_after : {V : Type 0} (w : List ℕ) (f : V → Words) (o : Option V) → if_there (w ∷ []) f o ≡ if_there [] (λ x. w ∷ f x) o
+if_after w f None = refl
+if_after w f (Some x) = refl
 
 pub back-name : Backs (word (λ (t : Token). same id (mark_of t.kind))) (word (λ (t : Token). same id (mark_of t.kind))) alike single
 back-name = back-word (λ k. same id (mark_of k))
@@ -59,7 +59,7 @@ abbrev words_of_typed : Typed → Words
 words_of_typed v = word_of v.0 ∷ codes ":" ∷ (domain_words v.1.0 ++ if_there [] (λ d. codes "->" ∷ domain_words d) v.1.1)
 
 typed_is : (v : Typed) → typed_words v.0 v.1.0 v.1.1 ≡ words_of_typed v
-typed_is (t, (d, o)) = ap (λ ws. word_of t ∷ codes ":" ∷ (domain_words d ++ ws)) (if_behind (codes "->") domain_words o)
+typed_is (t, (d, o)) = ap (λ ws. word_of t ∷ codes ":" ∷ (domain_words d ++ ws)) (if_after (codes "->") domain_words o)
 
 abbrev changing_words : Changing → Words
 changing_words (Members t) = codes "abstract" ∷ codes "domain" ∷ single t

@@ -86,17 +86,17 @@ module _ {A : Type 0} (step : DomainTree-F A → A) where
   abbrev folded : DomainTree → A
   folded = fold-DomainTree A step
 
-  folded-Boolean : (s : Span) → folded (domains.Boolean s) ≡ step (DomainTree-F.Boolean s)
+  folded-Boolean : (s : Span) → folded (domains.Truth s) ≡ step (DomainTree-F.Truth s)
   unfolding roll-DomainTree denote.Hole.Carrier.roll
-  folded-Boolean s = fold-roll-DomainTree A step (DomainTree-F.Boolean s)
+  folded-Boolean s = fold-roll-DomainTree A step (DomainTree-F.Truth s)
 
-  folded-Integer : (s : Span) → folded (domains.Integer s) ≡ step (DomainTree-F.Integer s)
+  folded-Integer : (s : Span) → folded (domains.Int s) ≡ step (DomainTree-F.Int s)
   unfolding roll-DomainTree denote.Hole.Carrier.roll
-  folded-Integer s = fold-roll-DomainTree A step (DomainTree-F.Integer s)
+  folded-Integer s = fold-roll-DomainTree A step (DomainTree-F.Int s)
 
-  folded-Natural : (s : Span) → folded (domains.Natural s) ≡ step (DomainTree-F.Natural s)
+  folded-Natural : (s : Span) → folded (domains.Nat s) ≡ step (DomainTree-F.Nat s)
   unfolding roll-DomainTree denote.Hole.Carrier.roll
-  folded-Natural s = fold-roll-DomainTree A step (DomainTree-F.Natural s)
+  folded-Natural s = fold-roll-DomainTree A step (DomainTree-F.Nat s)
 
   folded-Chars : (s : Span) → folded (domains.Chars s) ≡ step (DomainTree-F.Chars s)
   unfolding roll-DomainTree denote.Hole.Carrier.roll
@@ -123,15 +123,15 @@ module _ {A : Type 0} (step : DomainTree-F A → A) where
 abbrev pub same_domain : DomainTree → DomainTree → Type 0
 same_domain d e = bare_domain d ≡ bare_domain e
 
-same_boolean : (s s' : Span) → same_domain (domains.Boolean s') (domains.Boolean s)
+same_boolean : (s s' : Span) → same_domain (domains.Truth s') (domains.Truth s)
 unfolding bare_domain
 same_boolean s s' = folded-Boolean _ s' ∙ sym (folded-Boolean _ s)
 
-same_integer : (s s' : Span) → same_domain (domains.Integer s') (domains.Integer s)
+same_integer : (s s' : Span) → same_domain (domains.Int s') (domains.Int s)
 unfolding bare_domain
 same_integer s s' = folded-Integer _ s' ∙ sym (folded-Integer _ s)
 
-same_natural : (s s' : Span) → same_domain (domains.Natural s') (domains.Natural s)
+same_natural : (s s' : Span) → same_domain (domains.Nat s') (domains.Nat s)
 unfolding bare_domain
 same_natural s s' = folded-Natural _ s' ∙ sym (folded-Natural _ s)
 
@@ -168,15 +168,15 @@ words_prod s (d, (e, ds)) =
     ∙ ap (λ ws. codes "Prod" ∷ codes "(" ∷ domain_words d ++ comma ∷ domain_words e ++ ws ++ codes ")" ∷ []) (each_own comma domain_words ds)
     ∙ ap (λ ws. codes "Prod" ∷ codes "(" ∷ ws ++ codes ")" ∷ []) (append_assoc (domain_words d) (comma ∷ domain_words e) (after_each comma domain_words ds))
 
-words_boolean : (s : Span) → domain_words (domains.Boolean s) ≡ codes "Boolean" ∷ []
+words_boolean : (s : Span) → domain_words (domains.Truth s) ≡ codes "Boolean" ∷ []
 unfolding domain_words
 words_boolean s = folded-Boolean _ s
 
-words_integer : (s : Span) → domain_words (domains.Integer s) ≡ codes "Integer" ∷ []
+words_integer : (s : Span) → domain_words (domains.Int s) ≡ codes "Integer" ∷ []
 unfolding domain_words
 words_integer s = folded-Integer _ s
 
-words_natural : (s : Span) → domain_words (domains.Natural s) ≡ codes "Natural" ∷ []
+words_natural : (s : Span) → domain_words (domains.Nat s) ≡ codes "Natural" ∷ []
 unfolding domain_words
 words_natural s = folded-Natural _ s
 

@@ -1,4 +1,4 @@
--- The lines of terms by their tightness: what stands on a tight line stands on each looser one.
+-- The lines of terms by their tightness: what is on a tight line is on each looser one.
 use Rattle.std.proofs.Common.{◌≡◌, ℕ, zero, suc, ◌+◌, ◌-◌, Bool, true, false, List, [], ◌++◌, inr, sym, refl, ap, ◌∙◌, subst, append_assoc, append-nil, arith}
 use Rattle.std.proofs.lemmas.Bool.Decides.{nat_tests}
 use Rattle.std.specs.Prelude.{nat_lt, None}
@@ -49,7 +49,7 @@ module _ (fits : TermTree → Bool) (is_open : Bool) (inner : Forms) where
   level (suc (suc zero)) = or_form fits is_open inner
   level (suc (suc (suc n))) = from_and n
 
-  -- what stands on a line of this tightness
+  -- what is on a line of this tightness
   abbrev On : ℕ → Type 0
   On n = (t : TermTree) (ts : List Token) → (level (suc n)).Spells t ts → (level n).Spells t ts
 
@@ -86,7 +86,7 @@ module _ (fits : TermTree → Bool) (is_open : Bool) (inner : Forms) where
       sum : (m n : ℕ) → nat_lt m n ≡ false → m ≡ (m - n) + n
       sum m n h = grind (arith, nat_tests)
 
-  -- a primary stands on each line
+  -- a primary is on each line
   pub prim_on : (n : ℕ) (t : TermTree) (ts : List Token) → (prim_form is_open inner).Spells t ts → (level n).Spells t ts
   prim_on n t ts s = downs 9 n t ts s
 

@@ -8,7 +8,7 @@ pub mod Phrases
 pub mod Wrapped
 pub mod Levels
 pub mod Prims
-pub mod Places
+pub mod Parenthesized
 pub mod Operators
 pub mod Terms
 pub mod RuleFolds

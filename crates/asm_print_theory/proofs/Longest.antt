@@ -1,4 +1,4 @@
--- A word with a blank or nothing behind it is the longest token at its place.
+-- A word with a blank or nothing after it is the longest token where it begins.
 use Rattle.std.proofs.Common.{◌≡◌, ℕ, ◌+◌, ◌≤◌, Bool, true, false, List, [], ◌∷◌, ◌++◌, length, drop, sym, refl, ap, ◌∙◌, subst, arith, append_assoc, length-append}
 use Rattle.std.specs.Prelude.{◌&&◌, not, ◌==◌, codes, Some, None}
 use Rattle.std.specs.List.{prefix_len, list_all}
@@ -23,7 +23,7 @@ token_proper t after k (marked a h s) f = (value_of a, refl, f)
 token_proper t after k (chars a h) f = h
 token_proper t after k (symbol h) f = h
 
--- ---- what stands behind a word
+-- ---- what is after a word
 
 -- nothing, or a blank
 abbrev pub Apart : List ℕ → Type 0

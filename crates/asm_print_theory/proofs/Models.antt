@@ -58,7 +58,7 @@ words_integers s (t, (x, None)) = ap (λ ws. codes "domain" ∷ word_of t ∷ co
 words_integers s (t, (x, Some (To y))) = refl
 words_integers s (t, (x, Some (And ys))) = refl
 
--- a name, its parameters and what it stands for
+-- a name, its parameters and its meaning
 abbrev same_equation : Token × (Option ParamsTree × TermTree) → Token × (Option ParamsTree × TermTree) → Type 0
 same_equation = both alike (both (in_option same_params) same_term)
 

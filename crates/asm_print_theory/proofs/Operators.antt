@@ -21,7 +21,7 @@ use Rattle.asm_print_theory.proofs.Same.{same_term, same_fits, same_prefix, same
 use Rattle.asm_print_theory.proofs.Phrases.{words-Prefix, words-Binary}
 use Rattle.asm_print_theory.proofs.Levels.{tight, level, loosened, chain_more}
 use Rattle.asm_print_theory.proofs.Prims.{Inside, is_term}
-use Rattle.asm_print_theory.proofs.Places.{Operator, Fine, fine_looser, placed}
+use Rattle.asm_print_theory.proofs.Parenthesized.{Operator, Fine, fine_looser, parenthesized}
 
 -- ---- the texts of operators
 
@@ -148,12 +148,12 @@ module _ (is_open is_open' : Bool) (inner inner' : Forms) (more : is_open ≡ tr
         ∙ ap (λ j. bound j (term_writing left (left_tightness j) ++ text_of o.0 ∷ term_writing o.1 (right_tightness j)) m) f.1
         ∙ (λ i. bound n (term_writing left (e i) ++ sym f.0 i ∷ term_writing o.1 (right i)) m)
 
-    -- both operands, where the left one stands on a line this tight
+    -- both operands, where the left one is on a line this tight
     operands : (k : ℕ) (left : TermTree) (o : Token × TermTree) (a : List Token) → Good k left → step.Spells o a → Lexed a
         → Back (both same_term (both alike same_term)) (term_writing left k ++ word_of o.0 ∷ term_writing o.1 (tight l)) (line k then step') (left, o)
     operands k left o a f s x =
         let xs = subst (λ (z : List Token). Lexed z) s.1 x in
-        back_then_at left o (placed fits is_open' inner' k left f)
+        back_then_at left o (parenthesized fits is_open' inner' k left f)
         (back_step_own is_open' p o.0 o.1 (more s.3) s.2 xs.0 (((deeper s.3).line l is).at o.1 s.0 s.4 xs.1))
 
     same_joined : (u v : TermTree × (Token × TermTree)) → both same_term (both alike same_term) u v → same_term (joined u.0 u.1) (joined v.0 v.1)

@@ -148,10 +148,10 @@ module _ (needed : ℕ) where
   unfolding term_writing binds_words
   words-Let (b, t) s = ap (λ (w : Writing). w needed) (folded-Let _ _ _ _ _ b t s)
 
-  switch_words : (t : TermTree) (cs : List CaseTree) (ws : Words)
+  switch_term_words : (t : TermTree) (cs : List CaseTree) (ws : Words)
       → ((codes "switch" ∷ term_words t) ++ written_all own (map case_words cs) ++ ws) ++ codes "endswitch" ∷ []
       ≡ codes "switch" ∷ (term_words t ++ (written_all case_words cs ++ ws)) ++ codes "endswitch" ∷ []
-  switch_words t cs ws =
+  switch_term_words t cs ws =
       ap (λ x. ((codes "switch" ∷ term_words t) ++ x ++ ws) ++ codes "endswitch" ∷ []) (all_own case_words cs)
       ∙ ap (λ x. codes "switch" ∷ x ++ codes "endswitch" ∷ []) (append_assoc (term_words t) (written_all case_words cs) ws)
 
@@ -159,8 +159,8 @@ module _ (needed : ℕ) where
       → term_writing (terms.Switch v.0 v.1.0 v.1.1 s) needed
       ≡ codes "switch" ∷ (term_words v.0 ++ (written_all case_words v.1.0 ++ if_there [] (λ t. codes "otherwise" ∷ term_words t) v.1.1)) ++ codes "endswitch" ∷ []
   unfolding term_writing
-  words-Switch (t, (cs, None)) s = ap (λ (w : Writing). w needed) (folded-Switch _ _ _ _ _ t cs None s) ∙ switch_words t cs []
-  words-Switch (t, (cs, Some o)) s = ap (λ (w : Writing). w needed) (folded-Switch _ _ _ _ _ t cs (Some o) s) ∙ switch_words t cs (codes "otherwise" ∷ term_words o)
+  words-Switch (t, (cs, None)) s = ap (λ (w : Writing). w needed) (folded-Switch _ _ _ _ _ t cs None s) ∙ switch_term_words t cs []
+  words-Switch (t, (cs, Some o)) s = ap (λ (w : Writing). w needed) (folded-Switch _ _ _ _ _ t cs (Some o) s) ∙ switch_term_words t cs (codes "otherwise" ∷ term_words o)
 
   pub words-tuple_of : (t u : TermTree) (ts : List TermTree) (s : Span)
       → term_writing (tuple_of s (t, u ∷ ts)) needed ≡ codes "(" ∷ (term_words t ++ after_each comma term_words (u ∷ ts)) ++ codes ")" ∷ []

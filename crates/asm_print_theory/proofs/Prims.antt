@@ -6,17 +6,17 @@ use Rattle.asm_syntax.specs.declared.token.Token.{Token}
 use Rattle.asm_syntax.specs.declared.tree.TermTree.{TermTree}
 use Rattle.asm_syntax.specs.declared.tree.TermTree.TheVariants as terms
 use Rattle.asm_syntax.specs.Marks.{mark_of, same, id, variable, number, chars}
-use Rattle.asm_syntax.specs.Terms.{Line, term, imp, and, neg, sum, prod, sign, quantifier, Forms, terms_of, bind_of, binds_of, case_of, set_of, exist_of, arguments, call, bind, binds, plain, name, quantified, set, sequence, conditional, binding, case, selection}
+use Rattle.asm_syntax.specs.Terms.{Line, term, imp, and, neg, sum, prod, sign, quantifier, Forms, terms_of, bind_of, binds_of, case_of, set_of, exist_of, arguments, call, bind, binds, plain, name, quantified, set, sequence, if_term, let_term, case, switch_term}
 use Rattle.asm_syntax.specs.Written.{Words, if_there, ranges_words, term_writing, term_words, terms_words, binds_words}
 use Rattle.asm_print_theory.proofs.Propers.{Lexed}
 use Rattle.asm_print_theory.proofs.Back.{Back, Backs, back-word, back-then, back-either, back-made, back-formed, back-maybe, back_left, back_right, back_formed_to}
 use Rattle.asm_print_theory.proofs.Rows.{back-quoted, back-after_word, back-after_sign, back-opened, back-enclosed, back-bracketed, back-many, back-listed, back-members}
 use Rattle.asm_print_theory.proofs.Domains.{same_ranges}
-use Rattle.asm_print_theory.proofs.Same.{same_term, same_terms, same_bind, same_binds, same_case, same_terms_of, same_bind_of, same_binds_of, same_case_of, same_number, same_chars, same_var, same_true, same_false, same_undef, same_name, same_forall, same_exist_of, same_set_of, same_seq, same_if, same_let, same_switch}
+use Rattle.asm_print_theory.proofs.Same.{same_term, same_terms, same_bind, same_binds, same_case, same_terms_of, same_bind_of, same_binds_of, same_case_of, same_number, same_chars, same_var, same_true, same_false, same_undef, same_name, same_forall, same_exist_of, same_set_of, same_seq, same_if_term, same_let_term, same_switch_term}
 use Rattle.asm_print_theory.proofs.Phrases.{bind_words, case_words, words-terms, words-bind, words-binds, words-case, words-Number, words-Chars, words-True, words-False, words-Undef, words-Var, words-Name, words-Forall, words-exist_of, words-set_of, words-Seq, words-If, words-Let, words-Switch}
 use Rattle.asm_print_theory.proofs.Levels.{tight}
 
--- a quantifier, which always stands in parentheses, by the words between them
+-- a quantifier, which is always in parentheses, by the words between them
 pub record Quantified (M : Language Token TermTree) (t : TermTree) : Type 0 where
   pub words : Words
   pub whole : (needed : ℕ) → term_writing t needed ≡ codes "(" ∷ words ++ codes ")" ∷ []
@@ -32,7 +32,7 @@ is_term sum = true
 is_term prod = true
 is_term sign = true
 
--- what stands at a place is spelled again at another
+-- what one language spells is spelled again by another
 pub record Inside (I J : Forms) : Type 0 where
   pub line : (l : Line) → is_term l ≡ true → Backs (I.line l) (J.line l) same_term (λ t. term_writing t (tight l))
   pub quantifiers : (t : TermTree) (ts : List Token) → (I.line quantifier).Spells t ts → Lexed ts → Quantified (J.line quantifier) t
@@ -101,14 +101,14 @@ module _ (is_open is_open' : Bool) (inner inner' : Forms) (more : is_open ≡ tr
     back-sequence = back-formed _ same_seq (λ s v ts h. words-Seq needed v s)
         (back-bracketed (codes "[") is_open is_open' more (codes "]") refl refl (λ o. back-maybe (back-arguments (deeper o))))
 
-    pub back-conditional : Backs (conditional is_open inner) (conditional is_open' inner') same_term writing
-    back-conditional = back-formed _ same_if (λ s v ts h. words-If needed v s)
+    pub back-if_term : Backs (if_term is_open inner) (if_term is_open' inner') same_term writing
+    back-if_term = back-formed _ same_if_term (λ s v ts h. words-If needed v s)
         (back-enclosed (codes "if") is_open is_open' more (codes "endif") refl refl (λ o.
         back-then ((deeper o).line term refl) (back-then (back-after_word (codes "then") refl ((deeper o).line term refl))
         (back-maybe (back-after_word (codes "else") refl ((deeper o).line term refl))))))
 
-    pub back-binding : Backs (binding is_open inner) (binding is_open' inner') same_term writing
-    back-binding = back-formed _ same_let (λ s v ts h. words-Let needed v s)
+    pub back-let_term : Backs (let_term is_open inner) (let_term is_open' inner') same_term writing
+    back-let_term = back-formed _ same_let_term (λ s v ts h. words-Let needed v s)
         (back-enclosed (codes "let") is_open is_open' more (codes "endlet") refl refl (λ o.
         back-then (deeper o).binds (back-after_word (codes "in") refl ((deeper o).line term refl))))
 
@@ -116,8 +116,8 @@ module _ (is_open is_open' : Bool) (inner inner' : Forms) (more : is_open ≡ tr
     back-case d = back-made case_of same_case_of (λ v ts s. words-case v)
         (back-after_word (codes "case") refl (back-then (d.line term refl) (back-after_sign (codes ":") refl (d.line term refl))))
 
-    pub back-selection : Backs (selection is_open inner) (selection is_open' inner') same_term writing
-    back-selection = back-formed _ same_switch (λ s v ts h. words-Switch needed v s)
+    pub back-switch_term : Backs (switch_term is_open inner) (switch_term is_open' inner') same_term writing
+    back-switch_term = back-formed _ same_switch_term (λ s v ts h. words-Switch needed v s)
         (back-enclosed (codes "switch") is_open is_open' more (codes "endswitch") refl refl (λ o.
         back-then ((deeper o).line term refl) (back-then (back-many (back-case (deeper o)))
         (back-maybe (back-after_word (codes "otherwise") refl ((deeper o).line term refl))))))

@@ -13,7 +13,7 @@ use Rattle.asm_syntax.specs.Written.{Words, after_each, written_all, if_there, c
 use Rattle.asm_print_theory.proofs.Propers.{Lexed, lexed_parts, none_left}
 use Rattle.asm_print_theory.proofs.Back.{Back, Backs, whatever, both, in_option, in_list, back-fixed, back-then, back_then_at, back-opens-fixed, back_step_fixed, back_fixed_at, back_made_to, back-either, back-made, back-maybe}
 
--- ---- words that always stand there
+-- ---- words that are always there
 
 is_keyword : (w : List ℕ) (u : Token) → u.kind ≡ Keyword w → is (keyword w) u ≡ true
 is_keyword w u e = ap (λ k. same (keyword w) (mark_of k)) e ∙ (bytes_eq-Decides w w).1 refl
@@ -59,7 +59,7 @@ back_between s is_open end v h h' o b =
     (back_step_fixed is_open (is (symbol s)) (Symbol s) t (v, t) o h (is_symbol s)
     (back_then_at v t b (back_fixed_at (is (symbol end)) (Symbol end) t h' (is_symbol end))))
 
--- what stands between two symbols
+-- what is between two symbols
 pub unbracketed : {V : Type 0} (is_open : Bool) (s : List ℕ) (L : Language Token V) (end : List ℕ) (v : V) (ts : List Token)
     → (bracketed is_open s L end).Spells v ts → Lexed ts → (is_open ≡ true) × (a : List Token) × L.Spells v a × Lexed a
 unbracketed is_open s L end v ts (p, e, (b, f, t, o, (a, c, g, x, y))) l =
@@ -68,7 +68,7 @@ unbracketed is_open s L end v ts (p, e, (b, f, t, o, (a, c, g, x, y))) l =
 
 -- ---- rows
 
--- each spelled behind the one before it
+-- each spelled after the one before it
 abbrev Row : {V : Type 0} → Language Token V → List V → List Token → Type 0
 Row L [] ts = ts ≡ []
 Row L (v ∷ vs) ts = (a : List Token) × (b : List Token) × (ts ≡ a ++ b) × L.Spells v a × Row L vs b
@@ -164,7 +164,7 @@ module _ {V : Type 0} {L M : Language Token V} {same : V → V → Type 0} {word
 
 -- ---- with commas, and the members of a set
 
--- each behind a separator
+-- each after a separator
 pub each_is : {V : Type 0} (separator : List ℕ) (write : V → Words) (vs : List V) → after_each separator write vs ≡ written_all (λ v. separator ∷ write v) vs
 each_is separator write [] = refl
 each_is separator write (v ∷ vs) = ap (λ ws. separator ∷ (write v ++ ws)) (each_is separator write vs)

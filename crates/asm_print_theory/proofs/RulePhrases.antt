@@ -62,24 +62,24 @@ same_use_of s s' (t, Updates (a, x)) (t', Updates (a', x')) h = (
   folded-Update _ _ t a x s' ∙ sym (folded-Update _ _ t' a' x' s),
 )
 
-pub same_par : (s s' : Span) (u v : RuleTree × List RuleTree) → both same_rule (in_list same_rule) u v → same_rule (rules.Par u.0 u.1 s') (rules.Par v.0 v.1 s)
+pub same_par_rule : (s s' : Span) (u v : RuleTree × List RuleTree) → both same_rule (in_list same_rule) u v → same_rule (rules.Par u.0 u.1 s') (rules.Par v.0 v.1 s)
 unfolding bare_rule is_closed
-same_par s s' (r, rs) (r', rs') h = (
+same_par_rule s s' (r, rs) (r', rs') h = (
   folded-Par _ _ r rs s' ∙ (λ i. rules.Par (h.0.0 i) (map_first bare_rule is_closed rs rs' h.1 i) here) ∙ sym (folded-Par _ _ r' rs' s),
   folded-Par _ _ r rs s' ∙ sym (folded-Par _ _ r' rs' s),
 )
 
-pub same_sequence : (s s' : Span) (u v : RuleTree × List RuleTree) → both same_rule (in_list same_rule) u v → same_rule (rules.Seq u.0 u.1 s') (rules.Seq v.0 v.1 s)
+pub same_seq_rule : (s s' : Span) (u v : RuleTree × List RuleTree) → both same_rule (in_list same_rule) u v → same_rule (rules.Seq u.0 u.1 s') (rules.Seq v.0 v.1 s)
 unfolding bare_rule is_closed
-same_sequence s s' (r, rs) (r', rs') h = (
+same_seq_rule s s' (r, rs) (r', rs') h = (
   folded-Seq _ _ r rs s' ∙ (λ i. rules.Seq (h.0.0 i) (map_first bare_rule is_closed rs rs' h.1 i) here) ∙ sym (folded-Seq _ _ r' rs' s),
   folded-Seq _ _ r rs s' ∙ sym (folded-Seq _ _ r' rs' s),
 )
 
-pub same_if : (s s' : Span) (u v : TermTree × (RuleTree × Option RuleTree)) → both same_term (both same_rule (in_option same_rule)) u v
+pub same_if_rule : (s s' : Span) (u v : TermTree × (RuleTree × Option RuleTree)) → both same_term (both same_rule (in_option same_rule)) u v
     → same_rule (rules.If u.0 u.1.0 u.1.1 s') (rules.If v.0 v.1.0 v.1.1 s)
 unfolding bare_rule is_closed
-same_if s s' (g, (r, o)) (g', (r', o')) h = (
+same_if_rule s s' (g, (r, o)) (g', (r', o')) h = (
   folded-If _ _ g r o s' ∙ (λ i. rules.If (h.0.0 i) (h.1.0.0 i) (option_first bare_rule is_closed o o' h.1.1 i) here) ∙ sym (folded-If _ _ g' r' o' s),
   folded-If _ _ g r o s' ∙ sym (folded-If _ _ g' r' o' s),
 )
@@ -100,37 +100,37 @@ closed_choose q q' g g' r r' None (Some o') s s' h = absurd h
 closed_choose q q' g g' r r' (Some o) None s s' h = absurd h
 closed_choose q q' g g' r r' (Some o) (Some o') s s' h = h.1
 
-pub same_choose : (s s' : Span) (u v : RangesTree × (Option TermTree × (RuleTree × Option RuleTree)))
+pub same_choose_rule : (s s' : Span) (u v : RangesTree × (Option TermTree × (RuleTree × Option RuleTree)))
     → both same_ranges (both (in_option same_term) (both same_rule (in_option same_rule))) u v → same_rule (choose_of s' u) (choose_of s v)
 unfolding bare_rule is_closed
-same_choose s s' (q, (g, (r, o))) (q', (g', (r', o'))) h = (
+same_choose_rule s s' (q, (g, (r, o))) (q', (g', (r', o'))) h = (
   folded-Choose _ _ q g r o s'
       ∙ (λ i. rules.Choose (h.0 i) (option_first bare_term height g g' h.1.0 i) (h.1.1.0.0 i) (option_first bare_rule is_closed o o' h.1.1.1 i) here)
       ∙ sym (folded-Choose _ _ q' g' r' o' s),
   folded-Choose _ _ q g r o s' ∙ closed_choose q q' g g' (is_closed r) (is_closed r') o o' s s' h.1.1.1 ∙ sym (folded-Choose _ _ q' g' r' o' s),
 )
 
-pub same_let : (s s' : Span) (u v : BindsTree × RuleTree) → both same_binds same_rule u v → same_rule (rules.Let u.0 u.1 s') (rules.Let v.0 v.1 s)
+pub same_let_rule : (s s' : Span) (u v : BindsTree × RuleTree) → both same_binds same_rule u v → same_rule (rules.Let u.0 u.1 s') (rules.Let v.0 v.1 s)
 unfolding bare_rule is_closed
-same_let s s' (b, r) (b', r') h = (
+same_let_rule s s' (b, r) (b', r') h = (
   folded-Let _ _ b r s' ∙ (λ i. rules.Let (h.0.0 i) (h.1.0 i) here) ∙ sym (folded-Let _ _ b' r' s),
   folded-Let _ _ b r s' ∙ sym (folded-Let _ _ b' r' s),
 )
 
-pub same_switch : (s s' : Span) (u v : TermTree × (List RuleCaseTree × Option RuleTree)) → both same_term (both (in_list same_rule_case) (in_option same_rule)) u v
+pub same_switch_rule : (s s' : Span) (u v : TermTree × (List RuleCaseTree × Option RuleTree)) → both same_term (both (in_list same_rule_case) (in_option same_rule)) u v
     → same_rule (rules.Switch u.0 u.1.0 u.1.1 s') (rules.Switch v.0 v.1.0 v.1.1 s)
 unfolding bare_rule is_closed
-same_switch s s' (t, (cs, o)) (t', (cs', o')) h = (
+same_switch_rule s s' (t, (cs, o)) (t', (cs', o')) h = (
   folded-Switch _ _ t cs o s'
       ∙ (λ i. rules.Switch (h.0.0 i) (map_same bare_rule_case cs cs' h.1.0 i) (option_first bare_rule is_closed o o' h.1.1 i) here)
       ∙ sym (folded-Switch _ _ t' cs' o' s),
   folded-Switch _ _ t cs o s' ∙ sym (folded-Switch _ _ t' cs' o' s),
 )
 
-pub same_extend : (s s' : Span) (u v : Token × ((Token × List Token) × RuleTree)) → both alike (both (both alike (in_list alike)) same_rule) u v
+pub same_extend_rule : (s s' : Span) (u v : Token × ((Token × List Token) × RuleTree)) → both alike (both (both alike (in_list alike)) same_rule) u v
     → same_rule (extend_of s' u) (extend_of s v)
 unfolding bare_rule is_closed
-same_extend s s' (t, ((x, xs), r)) (t', ((x', xs'), r')) h = (
+same_extend_rule s s' (t, ((x, xs), r)) (t', ((x', xs'), r')) h = (
   folded-Extend _ _ t x xs r s'
       ∙ (λ i. rules.Extend (same_token t t' h.0 i) (same_token x x' h.1.0.0 i) (same_tokens xs xs' h.1.0.1 i) (h.1.1.0 i) here)
       ∙ sym (folded-Extend _ _ t' x' xs' r' s),
@@ -159,27 +159,27 @@ words-use_of s (t, Updates (None, x)) = folded-Update _ _ t None x s
 words-use_of s (t, Updates (Some a, x)) =
     folded-Update _ _ t (Some a) x s ∙ ap (λ ws. word_of t ∷ ws) (sym (append_assoc (codes "(" ∷ terms_words a) (codes ")" ∷ []) (codes ":=" ∷ term_words x)))
 
-pub words-par : (s : Span) (v : RuleTree × List RuleTree)
+pub words-par_rule : (s : Span) (v : RuleTree × List RuleTree)
     → rule_words (rules.Par v.0 v.1 s) ≡ codes "par" ∷ (rule_words v.0 ++ written_all rule_words v.1) ++ codes "endpar" ∷ []
 unfolding rule_words
-words-par s (r, rs) = folded-Par _ _ r rs s ∙ ap (λ ws. codes "par" ∷ (rule_words r ++ ws) ++ codes "endpar" ∷ []) (all_own rule_words rs)
+words-par_rule s (r, rs) = folded-Par _ _ r rs s ∙ ap (λ ws. codes "par" ∷ (rule_words r ++ ws) ++ codes "endpar" ∷ []) (all_own rule_words rs)
 
-pub words-sequence : (s : Span) (v : RuleTree × List RuleTree)
+pub words-seq_rule : (s : Span) (v : RuleTree × List RuleTree)
     → rule_words (rules.Seq v.0 v.1 s) ≡ codes "seq" ∷ (rule_words v.0 ++ written_all rule_words v.1) ++ codes "endseq" ∷ []
 unfolding rule_words
-words-sequence s (r, rs) = folded-Seq _ _ r rs s ∙ ap (λ ws. codes "seq" ∷ (rule_words r ++ ws) ++ codes "endseq" ∷ []) (all_own rule_words rs)
+words-seq_rule s (r, rs) = folded-Seq _ _ r rs s ∙ ap (λ ws. codes "seq" ∷ (rule_words r ++ ws) ++ codes "endseq" ∷ []) (all_own rule_words rs)
 
-pub words-if : (s : Span) (v : TermTree × (RuleTree × Option RuleTree))
+pub words-if_rule : (s : Span) (v : TermTree × (RuleTree × Option RuleTree))
     → rule_words (rules.If v.0 v.1.0 v.1.1 s)
     ≡ codes "if" ∷ (term_words v.0 ++ (codes "then" ∷ rule_words v.1.0 ++ if_there [] (λ r. codes "else" ∷ rule_words r) v.1.1)) ++ codes "endif" ∷ []
 unfolding rule_words
-words-if s (g, (r, None)) =
+words-if_rule s (g, (r, None)) =
     folded-If _ _ g r None s ∙ ap (λ ws. codes "if" ∷ ws ++ codes "endif" ∷ []) (append_assoc (term_words g) (codes "then" ∷ rule_words r) [])
-words-if s (g, (r, Some o)) =
+words-if_rule s (g, (r, Some o)) =
     folded-If _ _ g r (Some o) s
     ∙ ap (λ ws. codes "if" ∷ ws ++ codes "endif" ∷ []) (append_assoc (term_words g) (codes "then" ∷ rule_words r) (codes "else" ∷ rule_words o))
 
--- a guard behind its word
+-- a guard after its word
 abbrev pub guarded : Option TermTree → Words
 guarded g = if_there [] (λ t. codes "with" ∷ term_words t) g
 
@@ -195,47 +195,47 @@ words-forall s (q, (g, r)) =
     ∙ ap (λ ws. codes "forall" ∷ ranges_words q ++ ws ++ codes "do" ∷ rule_words r) (guard_is g)
     ∙ ap (λ ws. codes "forall" ∷ ws) (append_assoc (ranges_words q) (guarded g) (codes "do" ∷ rule_words r))
 
-choose_words : (q g r o : Words) → q ++ g ++ r ++ o ≡ q ++ (g ++ (r ++ o))
-choose_words q g r o = append_assoc (q ++ g) r o ∙ append_assoc q g (r ++ o)
+choose_rule_words : (q g r o : Words) → q ++ g ++ r ++ o ≡ q ++ (g ++ (r ++ o))
+choose_rule_words q g r o = append_assoc (q ++ g) r o ∙ append_assoc q g (r ++ o)
 
-pub words-choose : (s : Span) (v : RangesTree × (Option TermTree × (RuleTree × Option RuleTree)))
+pub words-choose_rule : (s : Span) (v : RangesTree × (Option TermTree × (RuleTree × Option RuleTree)))
     → rule_words (choose_of s v)
     ≡ codes "choose"
     ∷ (ranges_words v.0 ++ (guarded v.1.0 ++ codes "do" ∷ (rule_words v.1.1.0 ++ if_there [] (λ r. codes "ifnone" ∷ rule_words r) v.1.1.1)))
 unfolding rule_words
-words-choose s (q, (g, (r, None))) =
+words-choose_rule s (q, (g, (r, None))) =
     folded-Choose _ _ q g r None s
     ∙ ap (λ ws. codes "choose" ∷ ranges_words q ++ ws ++ codes "do" ∷ rule_words r ++ []) (guard_is g)
-    ∙ ap (λ ws. codes "choose" ∷ ws) (choose_words (ranges_words q) (guarded g) (codes "do" ∷ rule_words r) [])
-words-choose s (q, (g, (r, Some o))) =
+    ∙ ap (λ ws. codes "choose" ∷ ws) (choose_rule_words (ranges_words q) (guarded g) (codes "do" ∷ rule_words r) [])
+words-choose_rule s (q, (g, (r, Some o))) =
     folded-Choose _ _ q g r (Some o) s
     ∙ ap (λ ws. codes "choose" ∷ ranges_words q ++ ws ++ codes "do" ∷ rule_words r ++ codes "ifnone" ∷ rule_words o) (guard_is g)
-    ∙ ap (λ ws. codes "choose" ∷ ws) (choose_words (ranges_words q) (guarded g) (codes "do" ∷ rule_words r) (codes "ifnone" ∷ rule_words o))
+    ∙ ap (λ ws. codes "choose" ∷ ws) (choose_rule_words (ranges_words q) (guarded g) (codes "do" ∷ rule_words r) (codes "ifnone" ∷ rule_words o))
 
-pub words-let : (s : Span) (v : BindsTree × RuleTree)
+pub words-let_rule : (s : Span) (v : BindsTree × RuleTree)
     → rule_words (rules.Let v.0 v.1 s) ≡ codes "let" ∷ (binds_words v.0 ++ codes "in" ∷ rule_words v.1) ++ codes "endlet" ∷ []
 unfolding rule_words
-words-let s (b, r) = folded-Let _ _ b r s
+words-let_rule s (b, r) = folded-Let _ _ b r s
 
-switch_words : (t : TermTree) (cs : List RuleCaseTree) (ws : Words)
+switch_rule_words : (t : TermTree) (cs : List RuleCaseTree) (ws : Words)
     → ((codes "switch" ∷ term_words t) ++ written_all own (map rule_case_words cs) ++ ws) ++ codes "endswitch" ∷ []
     ≡ codes "switch" ∷ (term_words t ++ (written_all rule_case_words cs ++ ws)) ++ codes "endswitch" ∷ []
-switch_words t cs ws =
+switch_rule_words t cs ws =
     ap (λ x. ((codes "switch" ∷ term_words t) ++ x ++ ws) ++ codes "endswitch" ∷ []) (all_own rule_case_words cs)
     ∙ ap (λ x. codes "switch" ∷ x ++ codes "endswitch" ∷ []) (append_assoc (term_words t) (written_all rule_case_words cs) ws)
 
-pub words-switch : (s : Span) (v : TermTree × (List RuleCaseTree × Option RuleTree))
+pub words-switch_rule : (s : Span) (v : TermTree × (List RuleCaseTree × Option RuleTree))
     → rule_words (rules.Switch v.0 v.1.0 v.1.1 s)
     ≡ codes "switch" ∷ (term_words v.0 ++ (written_all rule_case_words v.1.0 ++ if_there [] (λ r. codes "otherwise" ∷ rule_words r) v.1.1)) ++ codes "endswitch" ∷ []
 unfolding rule_words
-words-switch s (t, (cs, None)) = folded-Switch _ _ t cs None s ∙ switch_words t cs []
-words-switch s (t, (cs, Some o)) = folded-Switch _ _ t cs (Some o) s ∙ switch_words t cs (codes "otherwise" ∷ rule_words o)
+words-switch_rule s (t, (cs, None)) = folded-Switch _ _ t cs None s ∙ switch_rule_words t cs []
+words-switch_rule s (t, (cs, Some o)) = folded-Switch _ _ t cs (Some o) s ∙ switch_rule_words t cs (codes "otherwise" ∷ rule_words o)
 
-pub words-extend : (s : Span) (v : Token × ((Token × List Token) × RuleTree))
+pub words-extend_rule : (s : Span) (v : Token × ((Token × List Token) × RuleTree))
     → rule_words (extend_of s v)
     ≡ codes "extend" ∷ word_of v.0 ∷ codes "with" ∷ ((word_of v.1.0.0 ∷ after_each comma single v.1.0.1) ++ codes "do" ∷ rule_words v.1.1)
 unfolding rule_words
-words-extend s (t, ((x, xs), r)) = folded-Extend _ _ t x xs r s
+words-extend_rule s (t, ((x, xs), r)) = folded-Extend _ _ t x xs r s
 
 pub words-case : (v : TermTree × RuleTree) → rule_case_words (case_of v) ≡ codes "case" ∷ (term_words v.0 ++ codes ":" ∷ rule_words v.1)
 unfolding rule_words

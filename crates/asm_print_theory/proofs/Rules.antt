@@ -11,7 +11,7 @@ use Rattle.asm_syntax.specs.Forms.{is_open, after_word}
 use Rattle.asm_syntax.specs.Heights.{fits}
 use Rattle.asm_syntax.specs.Terms.{Forms, term}
 use Rattle.asm_syntax.specs.Terms as t
-use Rattle.asm_syntax.specs.Rules.{is_closed, Calls, Updates, use_of, choose_of, extend_of, case_of, skip, named, block, sequence, conditional, forall, choice, binding, case, selection, extension, rule_form, inside, rule_within}
+use Rattle.asm_syntax.specs.Rules.{is_closed, Calls, Updates, use_of, choose_of, extend_of, case_of, skip, call_or_update, par_rule, seq_rule, if_rule, forall, choose_rule, let_rule, case, switch_rule, extend_rule, rule_form, inside, rule_within}
 use Rattle.asm_syntax.specs.Written.{Words, if_there, term_words, terms_words}
 use Rattle.asm_syntax.specs.Canonical.{rule_words}
 use Rattle.asm_print_theory.proofs.Propers.{Lexed, lexed_parts}
@@ -21,7 +21,7 @@ use Rattle.asm_print_theory.proofs.Domains.{within_same}
 use Rattle.asm_print_theory.proofs.Same.{same_term, same_terms}
 use Rattle.asm_print_theory.proofs.Prims.{Inside, back-arguments, back-call}
 use Rattle.asm_print_theory.proofs.Terms.{kept, back-term}
-use Rattle.asm_print_theory.proofs.RulePhrases.{same_rule, same_rule_case, rule_case_words, same_use, use_words, same_skip, same_use_of, same_par, same_sequence, same_if, same_forall, same_choose, same_let, same_switch, same_extend, same_case_of, words-skip, words-use_of, words-par, words-sequence, words-if, words-forall, words-choose, words-let, words-switch, words-extend, words-case}
+use Rattle.asm_print_theory.proofs.RulePhrases.{same_rule, same_rule_case, rule_case_words, same_use, use_words, same_skip, same_use_of, same_par_rule, same_seq_rule, same_if_rule, same_forall, same_choose_rule, same_let_rule, same_switch_rule, same_extend_rule, same_case_of, words-skip, words-use_of, words-par_rule, words-seq_rule, words-if_rule, words-forall, words-choose_rule, words-let_rule, words-switch_rule, words-extend_rule, words-case}
 
 -- ---- a body, and what may follow it
 
@@ -54,24 +54,24 @@ module _ (is_open : Bool) (value : Language Token TermTree) (call : Language Tok
   back-skip : Again (skip is_open value call inner rule)
   back-skip = back-formed _ (λ s s' u v h. same_skip s s') (λ s v ts h. words-skip s) (back-quoted (codes "skip") refl)
 
-  back-named : Again (named is_open value call inner rule)
-  back-named = back-formed use_of same_use_of (λ s v ts h. words-use_of s v)
+  back-call_or_update : Again (call_or_update is_open value call inner rule)
+  back-call_or_update = back-formed use_of same_use_of (λ s v ts h. words-use_of s v)
       (back-then (back-word (λ k. same id (mark_of k)))
       (back-either {same = same_use} {words = use_words}
       (back-made Calls (λ u v h. h) (λ v ts s. refl)
       (back-bracketed (codes "[") is_open is_open more (codes "]") refl refl (λ o. back-maybe (back-arguments (deeper o)))))
       (back-made Updates (λ u v h. h) (λ v ts s. refl) (back-then (back-maybe calls) (back-after_sign (codes ":=") refl values)))))
 
-  back-block : Again (block is_open value call inner rule)
-  back-block = back-formed _ same_par (λ s v ts h. words-par s v)
+  back-par_rule : Again (par_rule is_open value call inner rule)
+  back-par_rule = back-formed _ same_par_rule (λ s v ts h. words-par_rule s v)
       (back-enclosed (codes "par") is_open is_open more (codes "endpar") refl refl (λ o. back-then (bodies o) (back-many (bodies o))))
 
-  back-sequence : Again (sequence is_open value call inner rule)
-  back-sequence = back-formed _ same_sequence (λ s v ts h. words-sequence s v)
+  back-seq_rule : Again (seq_rule is_open value call inner rule)
+  back-seq_rule = back-formed _ same_seq_rule (λ s v ts h. words-seq_rule s v)
       (back-enclosed (codes "seq") is_open is_open more (codes "endseq") refl refl (λ o. back-then (bodies o) (back-many (bodies o))))
 
-  back-conditional : Again (conditional is_open value call inner rule)
-  back-conditional = back-formed _ same_if (λ s v ts h. words-if s v)
+  back-if_rule : Again (if_rule is_open value call inner rule)
+  back-if_rule = back-formed _ same_if_rule (λ s v ts h. words-if_rule s v)
       (back-enclosed (codes "if") is_open is_open more (codes "endif") refl refl (λ o.
       back-then ((deeper o).line term refl) (back-then (back-after_word (codes "then") refl (bodies o))
       (back-maybe (back-after_word (codes "else") refl (bodies o))))))
@@ -87,14 +87,14 @@ module _ (is_open : Bool) (value : Language Token TermTree) (call : Language Tok
       (back-opened (codes "forall") is_open is_open more refl (λ o.
       back-then (deeper o).ranges (back-then (back-guard (deeper o)) (back-after_word (codes "do") refl (bodies o)))))
 
-  back-choice : Again (choice is_open value call inner rule)
-  back-choice = back-formed choose_of same_choose (λ s v ts h. words-choose s v)
+  back-choose_rule : Again (choose_rule is_open value call inner rule)
+  back-choose_rule = back-formed choose_of same_choose_rule (λ s v ts h. words-choose_rule s v)
       (back-opened (codes "choose") is_open is_open more refl (λ o.
       back-then (deeper o).ranges (back-then (back-guard (deeper o)) (back-after_word (codes "do") refl
       (back-dangling is_closed (λ u v h c. h.1 ∙ c) (bodies o) (back-after_word (codes "ifnone") refl (bodies o)))))))
 
-  back-binding : Again (binding is_open value call inner rule)
-  back-binding = back-formed _ same_let (λ s v ts h. words-let s v)
+  back-let_rule : Again (let_rule is_open value call inner rule)
+  back-let_rule = back-formed _ same_let_rule (λ s v ts h. words-let_rule s v)
       (back-enclosed (codes "let") is_open is_open more (codes "endlet") refl refl (λ o.
       back-then (deeper o).binds (back-after_word (codes "in") refl (bodies o))))
 
@@ -102,22 +102,22 @@ module _ (is_open : Bool) (value : Language Token TermTree) (call : Language Tok
   back-case d b = back-made case_of same_case_of (λ v ts s. words-case v)
       (back-after_word (codes "case") refl (back-then (d.line term refl) (back-after_sign (codes ":") refl b)))
 
-  back-selection : Again (selection is_open value call inner rule)
-  back-selection = back-formed _ same_switch (λ s v ts h. words-switch s v)
+  back-switch_rule : Again (switch_rule is_open value call inner rule)
+  back-switch_rule = back-formed _ same_switch_rule (λ s v ts h. words-switch_rule s v)
       (back-enclosed (codes "switch") is_open is_open more (codes "endswitch") refl refl (λ o.
       back-then ((deeper o).line term refl) (back-then (back-many (back-case (deeper o) (bodies o)))
       (back-maybe (back-after_word (codes "otherwise") refl (bodies o))))))
 
-  back-extension : Again (extension is_open value call inner rule)
-  back-extension = back-formed extend_of same_extend (λ s v ts h. words-extend s v)
+  back-extend_rule : Again (extend_rule is_open value call inner rule)
+  back-extend_rule = back-formed extend_of same_extend_rule (λ s v ts h. words-extend_rule s v)
       (back-opened (codes "extend") is_open is_open more refl (λ o.
       back-then (back-word (λ k. same id (mark_of k))) (back-after_word (codes "with") refl
       (back-then (back-listed (back-word (λ k. same variable (mark_of k)))) (back-after_word (codes "do") refl (bodies o))))))
 
   pub back-rule_form : Again (rule_form is_open value call inner rule)
   back-rule_form =
-      back-either back-skip (back-either back-named (back-either back-block (back-either back-sequence (back-either back-conditional
-      (back-either back-forall (back-either back-choice (back-either back-binding (back-either back-selection back-extension))))))))
+      back-either back-skip (back-either back-call_or_update (back-either back-par_rule (back-either back-seq_rule (back-either back-if_rule
+      (back-either back-forall (back-either back-choose_rule (back-either back-let_rule (back-either back-switch_rule back-extend_rule))))))))
 
 -- ---- how many constructs may be open
 

@@ -246,22 +246,22 @@ same_tuple_of s s' (t, []) (t', x ∷ ts') h = absurd h.1
 same_tuple_of s s' (t, x ∷ ts) (t', []) h = absurd h.1
 same_tuple_of s s' (t, x ∷ ts) (t', x' ∷ ts') h = same_tuple s s' _ _ (same_terms_of (t, x ∷ ts) (t', x' ∷ ts') h)
 
-pub same_if : (s s' : Span) (u v : TermTree × (TermTree × Option TermTree)) → both same_term (both same_term (in_option same_term)) u v
+pub same_if_term : (s s' : Span) (u v : TermTree × (TermTree × Option TermTree)) → both same_term (both same_term (in_option same_term)) u v
     → same_term (terms.If u.0 u.1.0 u.1.1 s') (terms.If v.0 v.1.0 v.1.1 s)
 unfolding bare_term height
-same_if s s' (g, (t, o)) (g', (t', o')) h = (
+same_if_term s s' (g, (t, o)) (g', (t', o')) h = (
   on-If _ _ _ _ _ s s' g g' t t' o o' h.0.0 h.1.0.0 (option_first bare_term height o o' h.1.1) refl,
   on-If _ _ _ _ _ s s' g g' t t' o o' h.0.1 h.1.0.1 (option_second bare_term height o o' h.1.1) refl,
 )
 
-pub same_let : (s s' : Span) (u v : BindsTree × TermTree) → both same_binds same_term u v → same_term (terms.Let u.0 u.1 s') (terms.Let v.0 v.1 s)
+pub same_let_term : (s s' : Span) (u v : BindsTree × TermTree) → both same_binds same_term u v → same_term (terms.Let u.0 u.1 s') (terms.Let v.0 v.1 s)
 unfolding bare_term bare_binds height
-same_let s s' (b, t) (b', t') h = (on-Let _ _ _ _ _ s s' b b' t t' h.0.0 h.1.0 refl, on-Let _ _ _ _ _ s s' b b' t t' h.0.1 h.1.1 refl)
+same_let_term s s' (b, t) (b', t') h = (on-Let _ _ _ _ _ s s' b b' t t' h.0.0 h.1.0 refl, on-Let _ _ _ _ _ s s' b b' t t' h.0.1 h.1.1 refl)
 
-pub same_switch : (s s' : Span) (u v : TermTree × (List CaseTree × Option TermTree)) → both same_term (both (in_list same_case) (in_option same_term)) u v
+pub same_switch_term : (s s' : Span) (u v : TermTree × (List CaseTree × Option TermTree)) → both same_term (both (in_list same_case) (in_option same_term)) u v
     → same_term (terms.Switch u.0 u.1.0 u.1.1 s') (terms.Switch v.0 v.1.0 v.1.1 s)
 unfolding bare_term height
-same_switch s s' (t, (cs, o)) (t', (cs', o')) h = (
+same_switch_term s s' (t, (cs, o)) (t', (cs', o')) h = (
   on-Switch _ _ _ _ _ s s' t t' cs cs' o o' h.0.0 (map_first bare_case case_height cs cs' h.1.0) (option_first bare_term height o o' h.1.1) refl,
   on-Switch _ _ _ _ _ s s' t t' cs cs' o o' h.0.1 (map_second bare_case case_height cs cs' h.1.0) (option_second bare_term height o o' h.1.1) refl,
 )

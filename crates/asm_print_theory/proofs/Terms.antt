@@ -14,12 +14,12 @@ use Rattle.asm_print_theory.proofs.Domains.{Within, within_open, within_more, wi
 use Rattle.asm_print_theory.proofs.Same.{same_term}
 use Rattle.asm_print_theory.proofs.Levels.{tight, level}
 use Rattle.asm_print_theory.proofs.Prims.{Inside, is_term, back_quantified, back-binds}
-use Rattle.asm_print_theory.proofs.Places.{Shape, Fine, fine_looser, placed, fine_prim}
+use Rattle.asm_print_theory.proofs.Parenthesized.{Shape, Fine, fine_looser, parenthesized, fine_prim}
 use Rattle.asm_print_theory.proofs.Operators.{op_of, one_of, one_of_ops, fine_prefix, fine_chain, fine_once}
 
 module _ (is_open is_open' : Bool) (inner inner' : Forms) (more : is_open ≡ true → is_open' ≡ true) (deeper : is_open ≡ true → Inside inner inner')
     (shapes : is_open ≡ true → (t : TermTree) (ts : List Token) → (inner.line term).Spells t ts → Lexed ts → Shape fits is_open' inner' t) where
-  -- what stands on a line of this tightness is fine there
+  -- what is on a line of this tightness is fine there
   abbrev FineOn : ℕ → Type 0
   FineOn n = (t : TermTree) (ts : List Token) → (level fits is_open inner n).Spells t ts → Lexed ts → Fine fits is_open' inner' n t
 
@@ -68,23 +68,23 @@ module _ (is_open is_open' : Bool) (inner inner' : Forms) (more : is_open ≡ tr
       (λ k h. op_of binary_tightness 0 (keyword (codes "iff")) k refl h) refl refl
       (imp_form fits is_open inner) (imp_form fits is_open' inner') refl fine_imp (λ u us q. q) (λ u us q. q)
 
-  placed_on : (n : ℕ) → FineOn n → Backs (level fits is_open inner n) (level fits is_open' inner' n) same_term (λ t. term_writing t n)
-  placed_on n f = record { at = λ t ts s l. placed fits is_open' inner' n t (f t ts s l) }
+  parenthesized_on : (n : ℕ) → FineOn n → Backs (level fits is_open inner n) (level fits is_open' inner' n) same_term (λ t. term_writing t n)
+  parenthesized_on n f = record { at = λ t ts s l. parenthesized fits is_open' inner' n t (f t ts s l) }
 
   pub back-line : (l : Line) → is_term l ≡ true
       → Backs (line_form fits is_open inner l) (line_form fits is_open' inner' l) same_term (λ t. term_writing t (tight l))
-  back-line term h = placed_on 0 fine_term
-  back-line imp h = placed_on 1 fine_imp
-  back-line and h = placed_on 3 fine_and
-  back-line neg h = placed_on 4 fine_neg
-  back-line sum h = placed_on 6 fine_sum
-  back-line prod h = placed_on 7 fine_prod
-  back-line sign h = placed_on 8 fine_sign
+  back-line term h = parenthesized_on 0 fine_term
+  back-line imp h = parenthesized_on 1 fine_imp
+  back-line and h = parenthesized_on 3 fine_and
+  back-line neg h = parenthesized_on 4 fine_neg
+  back-line sum h = parenthesized_on 6 fine_sum
+  back-line prod h = parenthesized_on 7 fine_prod
+  back-line sign h = parenthesized_on 8 fine_sign
   back-line quantifier h = absurd (cc)
 
 -- ---- how many constructs may be open
 
--- what stands inside n constructs is spelled again inside m
+-- what is inside n constructs is spelled again inside m
 pub record Kept (n m : ℕ) : Type 0 where
   pub again : Inside (inside fits n) (inside fits m)
   pub shapes : is_open n ≡ true → (t : TermTree) (ts : List Token) → ((inside fits n).line term).Spells t ts → Lexed ts

@@ -1,4 +1,4 @@
--- Words with a space or a line feed behind each are read as tokens of their kinds.
+-- Words with a space or a line feed after each are read as tokens of their kinds.
 use Rattle.std.proofs.Common.{◌≡◌, ℕ, ◌+◌, Bool, true, false, List, [], ◌∷◌, ◌++◌, length, sym, refl, ap, ◌∙◌, subst, arith, append_assoc}
 use Rattle.std.specs.Prelude.{◌&&◌, not, ◌==◌, codes, pos}
 use Rattle.std.proofs.lemmas.Bool.Decides.{nat_tests}
@@ -89,7 +89,7 @@ symbol_gap (x ∷ y ∷ w) after h e = go w h
 
 -- ---- each proper kind
 
--- its word stands at the front of a text as a token of this kind
+-- its word is at the front of a text as a token of this kind
 record Stands (k : TokenKind) (after : List ℕ) : Type 0 where
   no_gap : begins_gap (kind_word k ++ after) ≡ false
   longest : IsLongest (kind_word k) after k
@@ -132,7 +132,7 @@ stands (Symbol s) after p a = record {
 
 -- ---- texts
 
--- wherever it stands, the text is read to its end as tokens of these kinds
+-- wherever it is, the text is read to its end as tokens of these kinds
 abbrev pub Reads : List ℕ → Kinds → Type 0
 Reads bs ks = (at : ℕ) → (ts : List Token) × Lexes at bs ts End × (kinds_of ts ≡ ks)
 
@@ -194,7 +194,7 @@ no_kinds : (ks : Kinds) → words_of ks ≡ [] → ks ≡ []
 no_kinds [] e = refl
 no_kinds (k ∷ ks) e = absurd (cc)
 
--- lines of words, with a line feed behind each
+-- lines of words, with a line feed after each
 pub read_broken : (ls : Lines) (ks : Kinds) → Propers ks → words_of ks ≡ written_all own ls → Reads (broken ls) ks
 read_broken [] ks p e = subst (λ x. Reads [] x) (sym (no_kinds ks e)) read_nothing
 read_broken (l ∷ ls) ks p e =

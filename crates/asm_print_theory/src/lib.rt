@@ -1,4 +1,5 @@
-//! That canonical text is read as the same tree. It holds definitions and laws alone, and no code that runs.
+//! That canonical text is read as the same tree. It holds definitions and laws alone, and no code
+//! that runs.
 #![tactic(auto)]
 
 mod laws;

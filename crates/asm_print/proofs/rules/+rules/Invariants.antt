@@ -1,5 +1,5 @@
 use Rattle.std.proofs.Common.{◌≡◌, drop}
-use Rattle.asm_print.specs.Lines.{with_words}
+use Rattle.asm_print_terms.specs.Lines.{with_words}
 use Rattle.asm_print.specs.RuleParts.{rules_words, rule_cases_words}
 use Rattle.asm_print.proofs.rules.+rules.Given as goal
 

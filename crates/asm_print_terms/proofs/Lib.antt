@@ -1,0 +1,4 @@
+pub mod Words
+pub mod TermWords
+pub mod TermSteps
+pub mod Texts
