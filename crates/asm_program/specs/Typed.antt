@@ -1,6 +1,7 @@
--- Which trees are programs, and which program a tree is, for the part of the language that is run: no definitions and no
--- initial state, controlled functions without arguments, and few forms of terms and rules. At most 256 functions are
--- declared, names differ and are declared, and domains agree.
+-- Which trees are programs, and which program a tree is, for the part of the language that is run:
+-- no definitions and no initial state, controlled functions without arguments, and few forms of
+-- terms and rules. At most 256 functions are declared, names differ and are declared, and domains
+-- agree.
 use Rattle.std.specs.Prelude.{◌≡◌, ℕ, ◌+◌, Bool, true, false, not, ◌&&◌, nat_le, if◌then◌else◌, ℤ, pos, List, [], ◌∷◌, length, map, Option, Some, None, option_and_then, codes}
 use Rattle.std.specs.Option.{option_map}
 use Rattle.std.specs.List.{list_any}
@@ -64,8 +65,8 @@ all_of (Some x ∷ rest) = option_map (λ all. x ∷ all) (all_of rest)
 -- ---- functions
 
 abbrev pub domain_in : DomainTree-F DomainTree → Option Domain
-domain_in (DomainTree-F.Boolean span) = Some domains.Truth
-domain_in (DomainTree-F.Integer span) = Some domains.Int
+domain_in (DomainTree-F.Truth span) = Some domains.Truth
+domain_in (DomainTree-F.Int span) = Some domains.Int
 domain_in _ = None
 
 -- the truth values, or the integers
@@ -76,11 +77,13 @@ abbrev pub is_controlled : List ℕ → Bool
 is_controlled kind = bytes_eq kind (codes "controlled")
 
 abbrev pub function_with : Token → Option Domain → Option FunctionInfo
-function_with name domain = option_map (λ result. record { name = name_of name; result = result }) domain
+function_with name domain =
+    option_map (λ result. record { name = name_of name; result = result }) domain
 
 -- a controlled function without arguments
 abbrev pub function_of : DeclTree → Option FunctionInfo
-function_of (Dynamic kind name domain None span) = if is_controlled kind then function_with name (domain_of domain) else None
+function_of (Dynamic kind name domain None span) =
+    if is_controlled kind then function_with name (domain_of domain) else None
 function_of _ = None
 
 abbrev pub functions_of : List DeclTree → Option (List FunctionInfo)
@@ -97,21 +100,23 @@ is_truth_in _ = false
 abbrev pub is_truth : Domain → Bool
 is_truth domain = is_truth_in (out-Domain domain)
 
--- a function's number, and whether it is Boolean
+-- a function's number, and whether it has truth values
 abbrev pub Declared : Type 0
 Declared = ℕ × Bool
 
--- the first function of a name, where so many stand before these
+-- the first function of a name among those from number n on
 abbrev pub find_from : ℕ → List FunctionInfo → List ℕ → Option Declared
 find_from n [] name = None
-find_from n (f ∷ fs) name = if bytes_eq (function_name f) name then Some (n, is_truth f.result) else find_from (n + 1) fs name
+find_from n (f ∷ fs) name =
+    if bytes_eq (function_name f) name then Some (n, is_truth f.result)
+    else find_from (n + 1) fs name
 
 abbrev pub find : List FunctionInfo → List ℕ → Option Declared
 find functions name = find_from 0 functions name
 
 -- ---- terms
 
--- a typed term, and whether it is Boolean: else it is an integer
+-- a typed term, and whether it has a truth value: else it has an integer
 abbrev pub Typed : Type 0
 Typed = Term × Bool
 
@@ -129,7 +134,7 @@ term_in functions _ = None
 abbrev pub term_of : List FunctionInfo → TermTree → Option Typed
 term_of functions t = term_in functions (out-TermTree t)
 
--- both are Boolean, or both are integers
+-- both have truth values, or both have integers
 abbrev pub same_domain : Bool → Bool → Bool
 same_domain true b = b
 same_domain false b = not b
@@ -145,13 +150,13 @@ update_of (Some f) (Some t) = if same_domain f.1 t.1 then Some (rules.Update f.0
 abbrev pub par_of : List (Option Rule) → Option Rule
 par_of parts = option_map (λ all. rules.Par all) (all_of parts)
 
--- a guard is Boolean
+-- a guard has a truth value
 abbrev pub guard_of : Option Typed → Option Term
 guard_of None = None
 guard_of (Some t) = if t.1 then Some t.0 else None
 
 abbrev pub if_of : Option Term → Option Rule → Option Rule → Option Rule
-if_of (Some guard) (Some first) (Some second) = Some (rules.If guard first second)
+if_of (Some guard) (Some first) (Some other) = Some (rules.If guard first other)
 if_of _ _ _ = None
 
 -- without `else` nothing is done
@@ -159,12 +164,14 @@ abbrev pub else_of : Option (Option Rule) → Option Rule
 else_of None = Some rules.Skip
 else_of (Some rule) = rule
 
--- one level of a rule, with the program of each part in its place
+-- one level of a rule, with the program of each part in its position
 abbrev pub rule_level : List FunctionInfo → RuleTree-F (Option Rule) (Unit {0}) → Option Rule
 rule_level functions (RuleTree-F.Skip span) = Some rules.Skip
-rule_level functions (RuleTree-F.Update name None value span) = update_of (find functions (name_of name)) (term_of functions value)
+rule_level functions (RuleTree-F.Update name None value span) =
+    update_of (find functions (name_of name)) (term_of functions value)
 rule_level functions (RuleTree-F.Par first others span) = par_of (first ∷ others)
-rule_level functions (RuleTree-F.If guard first second span) = if_of (guard_of (term_of functions guard)) first (else_of second)
+rule_level functions (RuleTree-F.If guard first other span) =
+    if_of (guard_of (term_of functions guard)) first (else_of other)
 rule_level functions _ = None
 
 -- no `switch` is run, so its cases are nothing
@@ -176,7 +183,7 @@ rule_of functions = fold-RuleTree (Option Rule) (Unit {0}) (rule_level functions
 
 -- ---- models
 
--- no name stands twice
+-- no name is there twice
 abbrev pub differ : List (List ℕ) → Bool
 differ [] = true
 differ (name ∷ names) = not (list_any (bytes_eq name) names) && differ names
@@ -186,18 +193,23 @@ abbrev pub names_of : ModelTree → List FunctionInfo → List (List ℕ)
 names_of tree functions = name_of tree.rule_name ∷ map function_name functions
 
 -- the program of these parts, where its functions are few: at most 256
-abbrev pub program_if : List ℕ → (functions : List FunctionInfo) → Rule → (few : Bool) → nat_le (length functions) 256 ≡ few → Option Program
-program_if name functions main true e = Some (record { name = name; functions = functions; main = main; few = leb-true _ _ e })
+abbrev pub program_if : List ℕ → (functions : List FunctionInfo) → Rule → (few : Bool)
+    → nat_le (length functions) 256 ≡ few → Option Program
+program_if name functions main true e =
+    Some (record { name = name; functions = functions; main = main; few = leb-true _ _ e })
 program_if name functions main false e = None
 
 abbrev pub program_from : List ℕ → List FunctionInfo → Rule → Option Program
-program_from name functions main = program_if name functions main (nat_le (length functions) 256) refl
+program_from name functions main =
+    program_if name functions main (nat_le (length functions) 256) refl
 
 abbrev pub main_of : ModelTree → List FunctionInfo → Option Rule
-main_of tree functions = if differ (names_of tree functions) then rule_of functions tree.rule else None
+main_of tree functions =
+    if differ (names_of tree functions) then rule_of functions tree.rule else None
 
 abbrev pub program_with : ModelTree → List FunctionInfo → Option Program
-program_with tree functions = option_and_then (program_from (name_of tree.name) functions) (main_of tree functions)
+program_with tree functions =
+    option_and_then (program_from (name_of tree.name) functions) (main_of tree functions)
 
 -- no definitions, and no initial state
 abbrev pub is_bare : List DefTree → Option InitTree → Bool
@@ -206,4 +218,6 @@ is_bare _ _ = false
 
 -- The program of a model, if it is one that is run.
 abbrev pub program_of : ModelTree → Option Program
-program_of tree = if is_bare tree.defs tree.init then option_and_then (program_with tree) (functions_of tree.decls) else None
+program_of tree =
+    if is_bare tree.defs tree.init then option_and_then (program_with tree) (functions_of tree.decls)
+    else None

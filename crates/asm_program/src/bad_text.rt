@@ -1,7 +1,7 @@
-//! What is told of a text that has no program.
+//! What is reported of a text that has no program.
 use asm_value::Text;
 
-/// What is told of a text that has no program: its first refusal.
+/// What is reported of a text that has no program: its first refusal.
 #[derive(Debug, Drop)]
 pub struct BadText {
     /// The refusal's name.

@@ -2,10 +2,10 @@
 ghost use Rattle.std.specs.Prelude.{◌≤◌, length};
 
 use crate::trees::Rule;
-use asm_value::{Domain, List, Text};
+use asm_value::{Boxed, Domain, List, Text};
 
 /// A controlled function without arguments.
-#[derive(Debug, Drop)]
+#[derive(Drop)]
 pub struct FunctionInfo {
     /// As the text spells it.
     pub name: Text,
@@ -15,13 +15,13 @@ pub struct FunctionInfo {
 
 /// A typed model of at most 256 functions: names differ and are declared, and domains agree. No
 /// field keeps what is said of names and domains: whoever makes a program from a tree proves it.
-#[derive(Debug, Drop)]
+#[derive(Drop)]
 pub struct Program {
     /// The model's name.
     pub name: Text,
-    /// In text order. A function's number is its place here, from 0.
+    /// In text order. A function's number is its position here, from 0.
     pub functions: List<FunctionInfo>,
     /// The rule of a step.
-    pub main: Rule,
+    pub main: Boxed<Rule>,
     pub ghost few: { length functions ≤ 256 },
 }

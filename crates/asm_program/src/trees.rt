@@ -1,8 +1,8 @@
 //! Terms and rules with numbers for their names.
 use asm_value::{Boxed, List, Value};
 
-/// A term. A function goes by its number: its place among the declarations, from 0.
-#[derive(Debug, Drop)]
+/// A term. A function goes by its number: its position among the declarations, from 0.
+#[derive(Drop)]
 pub enum Term {
     /// A literal: the same in each state.
     Constant(Value),
@@ -11,24 +11,24 @@ pub enum Term {
 }
 
 /// A rule. Functions go by their numbers.
-#[derive(Debug, Drop)]
+#[derive(Drop)]
 pub enum Rule {
     /// Nothing is done.
     Skip,
     /// The function gets the value that the term has before the step.
     Update {
         function: u16,
-        value: Term,
+        value: Boxed<Term>,
     },
     /// All parts at once, each in the same state.
     Par {
-        parts: List<Rule>,
+        parts: List<Boxed<Rule>>,
     },
-    /// One branch: the second where the guard is false or undef. `otherwise` is `Skip` where the
-    /// text has no `else`.
+    /// One branch: `then` where the guard is true, and `other` where it is false or undef. `other`
+    /// is `Skip` where the text has no `else`.
     If {
-        guard: Term,
+        guard: Boxed<Term>,
         then: Boxed<Rule>,
-        otherwise: Boxed<Rule>,
+        other: Boxed<Rule>,
     },
 }

@@ -1,7 +1,8 @@
 -- Unions of sets of updates.
 use Rattle.std.proofs.Common.{◌≡◌, Bool, true, false, ◌||◌, refl, sym, ap, ◌∙◌}
 use Rattle.asm_value.specs.declared.location.Update.{Update}
-use Rattle.asm_value.specs.UpdateSet.{UpdateSet, has, empty, add, union, same, has-empty, has-add, has-union, same_updates}
+use Rattle.asm_value.specs.UpdateSet.{UpdateSet, has, empty, add, union, same}
+use Rattle.asm_value.proofs.UpdateSetLaws.{has-empty, has-add, has-union, same_updates}
 
 or_assoc : (a b c : Bool) → ((a || b) || c) ≡ (a || (b || c))
 or_assoc true b c = refl

@@ -7,7 +7,7 @@ use crate::terms::{eval, holds, location_of};
 use asm_program::{Program, Rule};
 use asm_state::State;
 use asm_updates::UpdateSet;
-use asm_value::Update;
+use asm_value::{Boxed, Update};
 use std::alloc::{AllocError, Global};
 
 /// The update set of one step: all that the program's main rule yields in the state.
@@ -17,7 +17,7 @@ pub fn yields(alloc: Global, program: &Program, state: &State) -> Result<UpdateS
     ensures { IfOk result (λ set. set ≡ spec.main_yields program.now state.now) }
 {
     let mut set = UpdateSet::new(alloc);
-    add_yielded(alloc, state, &program.main, &mut set)?;
+    add_yielded(alloc, state, program.main.get(), &mut set)?;
     Ok(set)
 }
 
@@ -36,18 +36,14 @@ fn add_yielded(
         Rule::Skip => Ok(()),
         Rule::Update { function, value } => into.add(Update {
             location: location_of(alloc, *function),
-            value: eval(alloc, state, value)?,
+            value: eval(alloc, state, value.get())?,
         }),
         Rule::Par { parts } => add_all_yielded(alloc, state, parts.as_slice(), into),
-        Rule::If {
-            guard,
-            then,
-            otherwise,
-        } => {
-            if holds(alloc, state, guard)? {
+        Rule::If { guard, then, other } => {
+            if holds(alloc, state, guard.get())? {
                 add_yielded(alloc, state, then.get(), into)
             } else {
-                add_yielded(alloc, state, otherwise.get(), into)
+                add_yielded(alloc, state, other.get(), into)
             }
         }
     }
@@ -59,13 +55,14 @@ fn add_yielded(
 fn add_all_yielded(
     alloc: Global,
     state: &State,
-    rules: &[Rule],
+    rules: &[Boxed<Rule>],
     into: &mut UpdateSet,
 ) -> Result<(), AllocError>
-    ensures { OnOk result (into.new ≡ union into.old (spec.union_of (map spec.yields rules.now) state.now)) }
+    ensures { OnOk result
+        (into.new ≡ union into.old (spec.union_of (map spec.yields rules.now) state.now)) }
 {
     for rule in rules {
-        add_yielded(alloc, state, rule, into)?;
+        add_yielded(alloc, state, rule.get(), into)?;
     }
     Ok(())
 }

@@ -1,10 +1,11 @@
 //! What terms give in a state.
 ghost use Rattle.std.specs.Prelude.{◌≡◌, IfOk};
+ghost use Rattle.asm_value.specs.Living.{is_true};
 ghost use Rattle.asm_program.specs.Meaning as spec;
 
 use asm_program::Term;
 use asm_state::State;
-use asm_value::{Args, Location, Place, Value};
+use asm_value::{Args, Location, Subject, Value};
 use std::alloc::{AllocError, Global};
 
 /// The location of a function without arguments. Takes no memory.
@@ -12,7 +13,7 @@ pub fn location_of(alloc: Global, function: u16) -> Location
     ensures { result ≡ spec.location_of function }
 {
     Location {
-        place: Place::Function(function),
+        subject: Subject::Function(function),
         args: Args::new(alloc),
     }
 }
@@ -33,14 +34,14 @@ pub fn eval(alloc: Global, state: &State, term: &Term) -> Result<Value, AllocErr
 
 /// Whether a guard with this value holds: only true does. Takes no memory.
 pub fn is_true(value: &Value) -> bool
-    ensures { result ≡ spec.is_true value.now }
+    ensures { result ≡ is_true value.now }
 {
-    value.compare(&Value::Truth(true)).is_eq()
+    value.as_truth().unwrap_or(false)
 }
 
 /// Whether the guard is true in the state.
 pub fn holds(alloc: Global, state: &State, guard: &Term) -> Result<bool, AllocError>
-    ensures { IfOk result (λ held. held ≡ spec.is_true (spec.eval state.now guard.now)) }
+    ensures { IfOk result (λ held. held ≡ is_true (spec.eval state.now guard.now)) }
 {
     let value = eval(alloc, state, guard)?;
     Ok(is_true(&value))

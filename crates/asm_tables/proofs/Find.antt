@@ -7,7 +7,7 @@ use Rattle.std.proofs.lemmas.Option.{slice_get-get_or}
 use Rattle.asm_tables.specs.declared.table.Kind.{Kind}
 use Rattle.asm_tables.specs.declared.table.Row.{Row}
 use Rattle.asm_tables.specs.Table.{matches, matches_at, row_of, are_distinct, IsOnlyMatch, NoneMatches}
-use Rattle.asm_tables.specs.TableLaws.{only_match}
+use Rattle.asm_tables.proofs.TableLaws.{only_match}
 
 module _ (name : List ℕ) (ks : List Kind) where
   -- where there is a row of this number, it matches exactly where its name and kinds do

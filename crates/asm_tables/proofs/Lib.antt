@@ -1,1 +1,2 @@
 mod Find
+pub mod TableLaws

@@ -4,26 +4,26 @@ use Rattle.std.specs.Option.{option_map_or}
 use Rattle.std.specs.List.{list_any, list_all, position}
 use Rattle.std.specs.Cmp.Lexicographic.{pointwise}
 use Rattle.asm_tables.specs.declared.table.Kind.{Kind}
-use Rattle.asm_tables.specs.declared.table.Kind.TheVariants.{Boolean, Integer, String, Member, Tuple, Sequence, Set, Untyped, Any}
+use Rattle.asm_tables.specs.declared.table.Kind.TheVariants.{Truth, Int, Chars, Member, Tuple, Seq, Set, Untyped, Any}
 use Rattle.asm_tables.specs.declared.table.Kinds.{Kinds}
 use Rattle.asm_tables.specs.declared.table.Kinds.TheVariants.{One, Two}
 use Rattle.asm_tables.specs.declared.table.Row.{Row}
 use Rattle.asm_tables.specs.Names.{text_of}
 
--- a place of a row takes its own kind; `Any` takes every kind
+-- a position of a row takes its own kind; `Any` takes every kind
 abbrev pub takes : Kind → Kind → Bool
 takes Any k = true
-takes Boolean Boolean = true
-takes Integer Integer = true
-takes String String = true
+takes Truth Truth = true
+takes Int Int = true
+takes Chars Chars = true
 takes Member Member = true
 takes Tuple Tuple = true
-takes Sequence Sequence = true
+takes Seq Seq = true
 takes Set Set = true
 takes Untyped Untyped = true
 takes _ _ = false
 
--- as many kinds as the row has places, each taken at its place
+-- as many kinds as the row has positions, each taken at its own
 abbrev pub all_taken : Kinds → List Kind → Bool
 all_taken (One j) (k ∷ []) = takes j k
 all_taken (Two i j) (k ∷ l ∷ []) = takes i k && takes j l
@@ -43,7 +43,7 @@ all_filled (One j) (k ∷ []) = filled j k ∷ []
 all_filled (Two i j) (k ∷ l ∷ []) = filled i k ∷ filled j l ∷ []
 all_filled _ kinds = kinds
 
--- some row would match if each untyped kind were the row's at its place
+-- some row would match if each untyped kind were the row's at its position
 abbrev pub admits : List Row → List ℕ → List Kind → Bool
 admits rows name kinds = list_any (λ row. matches name (all_filled row.kinds kinds) row) rows
 
@@ -63,7 +63,17 @@ IsOnlyMatch rows name kinds i =
 abbrev pub NoneMatches : List Row → List ℕ → List Kind → Type 0
 NoneMatches rows name kinds = (i : ℕ) → matches_at rows name kinds i ≡ false
 
--- some kind is taken at both places
+-- at most one row matches a name with some kinds
+abbrev pub HaveOneMatch : List Row → Type 0
+HaveOneMatch rows = (name : List ℕ) (kinds : List Kind) (i j : ℕ)
+    → matches_at rows name kinds i ≡ true → matches_at rows name kinds j ≡ true → i ≡ j
+
+-- what a row matches is admitted too
+abbrev pub AdmitTheirMatches : List Row → Type 0
+AdmitTheirMatches rows = (name : List ℕ) (kinds : List Kind) (i : ℕ)
+    → matches_at rows name kinds i ≡ true → admits rows name kinds ≡ true
+
+-- some kind is taken at both positions
 abbrev pub meet : Kind → Kind → Bool
 meet Any k = true
 meet j Any = true
@@ -89,6 +99,6 @@ has_untyped (Two Untyped j) = true
 has_untyped (Two i Untyped) = true
 has_untyped _ = false
 
--- the row asks for a value in each place, or takes all
+-- the row asks for a value in each position, or takes all
 abbrev pub asks_for_values : Row → Bool
 asks_for_values row = not (has_untyped row.kinds)

@@ -5,8 +5,6 @@
 mod laws;
 mod rows;
 mod table;
-#[cfg(test)]
-mod tests;
 
 pub use laws::{
     a_match_is_admitted, an_operator_has_one_row, at_most_one_row_matches,

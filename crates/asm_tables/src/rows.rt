@@ -5,7 +5,7 @@ ghost use Rattle.asm_tables.specs.Names.{text_of};
 use crate::table::{CaseTable, Kind, Kinds, Row};
 
 /// The names of the operators, with what each is in a text.
-#[derive(Clone, Copy, Debug, PartialEq, Eq)]
+#[derive(Clone, Copy, PartialEq, Eq)]
 pub enum OperatorName {
     /// `+`
     Plus,
@@ -93,72 +93,75 @@ pub enum OperatorName {
     IsUndef,
 }
 
+/// The operators' names as they are written, in the order of `OperatorName`.
+const NAMES: [&str; 42] = [
+    "+",
+    "-",
+    "*",
+    "div",
+    "mod",
+    "abs",
+    "min",
+    "max",
+    "<",
+    "<=",
+    ">",
+    ">=",
+    "not",
+    "xor",
+    "iff",
+    "in",
+    "notin",
+    "concat",
+    "length",
+    "toString",
+    "first",
+    "last",
+    "tail",
+    "at",
+    "append",
+    "prepend",
+    "isEmpty",
+    "asSet",
+    "asSequence",
+    "size",
+    "union",
+    "intersection",
+    "difference",
+    "including",
+    "excluding",
+    "subset",
+    "second",
+    "third",
+    "=",
+    "!=",
+    "isDef",
+    "isUndef",
+];
+
 impl OperatorName {
     /// The name as it is written.
     pub fn text(self) -> &'static str
         ensures { result.now ≡ text_of self }
     {
-        match self {
-            OperatorName::Plus => "+",
-            OperatorName::Minus => "-",
-            OperatorName::Times => "*",
-            OperatorName::Div => "div",
-            OperatorName::Mod => "mod",
-            OperatorName::Abs => "abs",
-            OperatorName::Min => "min",
-            OperatorName::Max => "max",
-            OperatorName::Less => "<",
-            OperatorName::AtMost => "<=",
-            OperatorName::Greater => ">",
-            OperatorName::AtLeast => ">=",
-            OperatorName::Not => "not",
-            OperatorName::Xor => "xor",
-            OperatorName::Iff => "iff",
-            OperatorName::In => "in",
-            OperatorName::NotIn => "notin",
-            OperatorName::Concat => "concat",
-            OperatorName::Length => "length",
-            OperatorName::ToString => "toString",
-            OperatorName::First => "first",
-            OperatorName::Last => "last",
-            OperatorName::Tail => "tail",
-            OperatorName::At => "at",
-            OperatorName::Append => "append",
-            OperatorName::Prepend => "prepend",
-            OperatorName::IsEmpty => "isEmpty",
-            OperatorName::AsSet => "asSet",
-            OperatorName::AsSequence => "asSequence",
-            OperatorName::Size => "size",
-            OperatorName::Union => "union",
-            OperatorName::Intersection => "intersection",
-            OperatorName::Difference => "difference",
-            OperatorName::Including => "including",
-            OperatorName::Excluding => "excluding",
-            OperatorName::Subset => "subset",
-            OperatorName::Second => "second",
-            OperatorName::Third => "third",
-            OperatorName::Equal => "=",
-            OperatorName::NotEqual => "!=",
-            OperatorName::IsDef => "isDef",
-            OperatorName::IsUndef => "isUndef",
-        }
+        NAMES[self as usize]
     }
 }
 
 /// The type of an operator's result, and which types have to join. Each rule that speaks of items
 /// is one of sequences or sets.
-#[derive(Clone, Copy, Debug, PartialEq, Eq)]
+#[derive(Clone, Copy, PartialEq, Eq)]
 pub enum ResultRule {
-    /// Boolean.
-    Boolean,
-    /// Boolean; the types of the two arguments have to join.
-    BooleanOfJoin,
-    /// Boolean; the type of the left argument has to join with that of the right one's items.
-    BooleanOfItem,
-    /// Integer.
-    Integer,
-    /// String.
-    String,
+    /// A truth value.
+    Truth,
+    /// A truth value; the types of the two arguments have to join.
+    TruthOfJoin,
+    /// A truth value; the type of the left argument has to join with that of the right one's items.
+    TruthOfItem,
+    /// An integer.
+    Int,
+    /// A string.
+    Chars,
     /// The type of the argument.
     Argument,
     /// The type of the items of the first argument.
@@ -172,7 +175,7 @@ pub enum ResultRule {
     /// Sets of what are the items of the argument.
     SetOfItems,
     /// Sequences of what are the items of the argument.
-    SequenceOfItems,
+    SeqOfItems,
     /// The type of the tuple's first part.
     FirstPart,
     /// The type of the tuple's second part, which has to be there.
@@ -181,9 +184,10 @@ pub enum ResultRule {
     ThirdPart,
 }
 
-/// What a row computes. Every operation but `Equal`, `NotEqual`, `IsDef` and `IsUndef` is undef where
-/// an argument is. A result of more than 256 items, or of a weight above 4,096, is ValueTooLarge.
-#[derive(Clone, Copy, Debug, PartialEq, Eq)]
+/// What a row computes. Every operation but `Equal`, `NotEqual`, `IsDef` and `IsUndef` is undef
+/// where an argument is. A result of more than 256 items, or of a weight above 4,096, is
+/// ValueTooLarge.
+#[derive(Clone, Copy, PartialEq, Eq)]
 pub enum Operation {
     /// The sum; Overflow outside the integers' range.
     Add,
@@ -193,7 +197,8 @@ pub enum Operation {
     Multiply,
     /// The quotient rounded down; undef where the divisor is 0; Overflow outside the range.
     Divide,
-    /// What the quotient rounded down leaves, 0 or with the divisor's sign; undef where the divisor is 0.
+    /// What the quotient rounded down leaves, 0 or with the divisor's sign; undef where the divisor
+    /// is 0.
     Remainder,
     /// The number with the other sign; Overflow outside the range.
     Negate,
@@ -204,21 +209,21 @@ pub enum Operation {
     /// The greater of the two.
     Max,
     /// Whether the left number is less.
-    LessInteger,
+    LessInt,
     /// Whether the left string comes first by its bytes.
-    LessString,
+    LessChars,
     /// Whether the left number is less or equal.
-    AtMostInteger,
+    AtMostInt,
     /// Whether the left string comes first by its bytes or is the same.
-    AtMostString,
+    AtMostChars,
     /// Whether the left number is greater.
-    GreaterInteger,
+    GreaterInt,
     /// Whether the left string comes last by its bytes.
-    GreaterString,
+    GreaterChars,
     /// Whether the left number is greater or equal.
-    AtLeastInteger,
+    AtLeastInt,
     /// Whether the left string comes last by its bytes or is the same.
-    AtLeastString,
+    AtLeastChars,
     /// The other truth value.
     Not,
     /// Whether the two differ.
@@ -230,37 +235,37 @@ pub enum Operation {
     /// Whether the left value isn't in the set.
     NotIn,
     /// The left string and then the right; ValueTooLarge past 1,024 bytes.
-    ConcatStrings,
+    ConcatChars,
     /// The number of Unicode characters.
-    StringLength,
+    CharsLength,
     /// The number in decimal digits.
-    IntegerToString,
+    IntToChars,
     /// `true` or `false`.
-    BooleanToString,
+    TruthToChars,
     /// The number of items.
-    SequenceLength,
+    SeqLength,
     /// The first item; undef where there is none.
     FirstItem,
     /// The last item; undef where there is none.
     LastItem,
     /// All items but the first; undef where there is none.
     Tail,
-    /// The item at a place from 0; undef where there is none.
+    /// The item at a position from 0; undef where there is none.
     At,
     /// The items, and then the right value.
     Append,
     /// The left value, and then the items.
     Prepend,
     /// The items of the left, and then those of the right.
-    ConcatSequences,
+    ConcatSeqs,
     /// Whether there is no item.
-    IsEmptySequence,
+    IsEmptySeq,
     /// Whether there is no item.
     IsEmptySet,
     /// The set of the items.
     AsSet,
     /// The items ascending.
-    AsSequence,
+    AsSeq,
     /// The number of items.
     Size,
     /// What is in either set.
@@ -298,58 +303,58 @@ macro_rules! operator_rows {
     ($each:ident!($($with:tt)*)) => {
         $each! {
             ($($with)*)
-            Add Plus Two(Integer, Integer) Integer,
-            Subtract Minus Two(Integer, Integer) Integer,
-            Multiply Times Two(Integer, Integer) Integer,
-            Divide Div Two(Integer, Integer) Integer,
-            Remainder Mod Two(Integer, Integer) Integer,
-            Negate Minus One(Integer) Integer,
-            Abs Abs One(Integer) Integer,
-            Min Min Two(Integer, Integer) Integer,
-            Max Max Two(Integer, Integer) Integer,
-            LessInteger Less Two(Integer, Integer) Boolean,
-            LessString Less Two(String, String) Boolean,
-            AtMostInteger AtMost Two(Integer, Integer) Boolean,
-            AtMostString AtMost Two(String, String) Boolean,
-            GreaterInteger Greater Two(Integer, Integer) Boolean,
-            GreaterString Greater Two(String, String) Boolean,
-            AtLeastInteger AtLeast Two(Integer, Integer) Boolean,
-            AtLeastString AtLeast Two(String, String) Boolean,
-            Not Not One(Boolean) Boolean,
-            Xor Xor Two(Boolean, Boolean) Boolean,
-            Iff Iff Two(Boolean, Boolean) Boolean,
-            In In Two(Any, Set) BooleanOfItem,
-            NotIn NotIn Two(Any, Set) BooleanOfItem,
-            ConcatStrings Concat Two(String, String) String,
-            StringLength Length One(String) Integer,
-            IntegerToString ToString One(Integer) String,
-            BooleanToString ToString One(Boolean) String,
-            SequenceLength Length One(Sequence) Integer,
-            FirstItem First One(Sequence) Item,
-            LastItem Last One(Sequence) Item,
-            Tail Tail One(Sequence) Argument,
-            At At Two(Sequence, Integer) Item,
-            Append Append Two(Sequence, Any) JoinLast,
-            Prepend Prepend Two(Any, Sequence) JoinFirst,
-            ConcatSequences Concat Two(Sequence, Sequence) Join,
-            IsEmptySequence IsEmpty One(Sequence) Boolean,
-            IsEmptySet IsEmpty One(Set) Boolean,
-            AsSet AsSet One(Sequence) SetOfItems,
-            AsSequence AsSequence One(Set) SequenceOfItems,
-            Size Size One(Set) Integer,
+            Add Plus Two(Int, Int) Int,
+            Subtract Minus Two(Int, Int) Int,
+            Multiply Times Two(Int, Int) Int,
+            Divide Div Two(Int, Int) Int,
+            Remainder Mod Two(Int, Int) Int,
+            Negate Minus One(Int) Int,
+            Abs Abs One(Int) Int,
+            Min Min Two(Int, Int) Int,
+            Max Max Two(Int, Int) Int,
+            LessInt Less Two(Int, Int) Truth,
+            LessChars Less Two(Chars, Chars) Truth,
+            AtMostInt AtMost Two(Int, Int) Truth,
+            AtMostChars AtMost Two(Chars, Chars) Truth,
+            GreaterInt Greater Two(Int, Int) Truth,
+            GreaterChars Greater Two(Chars, Chars) Truth,
+            AtLeastInt AtLeast Two(Int, Int) Truth,
+            AtLeastChars AtLeast Two(Chars, Chars) Truth,
+            Not Not One(Truth) Truth,
+            Xor Xor Two(Truth, Truth) Truth,
+            Iff Iff Two(Truth, Truth) Truth,
+            In In Two(Any, Set) TruthOfItem,
+            NotIn NotIn Two(Any, Set) TruthOfItem,
+            ConcatChars Concat Two(Chars, Chars) Chars,
+            CharsLength Length One(Chars) Int,
+            IntToChars ToString One(Int) Chars,
+            TruthToChars ToString One(Truth) Chars,
+            SeqLength Length One(Seq) Int,
+            FirstItem First One(Seq) Item,
+            LastItem Last One(Seq) Item,
+            Tail Tail One(Seq) Argument,
+            At At Two(Seq, Int) Item,
+            Append Append Two(Seq, Any) JoinLast,
+            Prepend Prepend Two(Any, Seq) JoinFirst,
+            ConcatSeqs Concat Two(Seq, Seq) Join,
+            IsEmptySeq IsEmpty One(Seq) Truth,
+            IsEmptySet IsEmpty One(Set) Truth,
+            AsSet AsSet One(Seq) SetOfItems,
+            AsSeq AsSequence One(Set) SeqOfItems,
+            Size Size One(Set) Int,
             Union Union Two(Set, Set) Join,
             Intersection Intersection Two(Set, Set) Join,
             Difference Difference Two(Set, Set) Join,
             Including Including Two(Set, Any) JoinLast,
             Excluding Excluding Two(Set, Any) JoinLast,
-            Subset Subset Two(Set, Set) Boolean,
+            Subset Subset Two(Set, Set) Truth,
             FirstPart First One(Tuple) FirstPart,
             SecondPart Second One(Tuple) SecondPart,
             ThirdPart Third One(Tuple) ThirdPart,
-            Equal Equal Two(Any, Any) BooleanOfJoin,
-            NotEqual NotEqual Two(Any, Any) BooleanOfJoin,
-            IsDef IsDef One(Any) Boolean,
-            IsUndef IsUndef One(Any) Boolean
+            Equal Equal Two(Any, Any) TruthOfJoin,
+            NotEqual NotEqual Two(Any, Any) TruthOfJoin,
+            IsDef IsDef One(Any) Truth,
+            IsUndef IsUndef One(Any) Truth
         }
     };
 }
@@ -365,12 +370,13 @@ macro_rules! table_of {
     };
 }
 
-/// The rows of all operators. A row's number is its place in this list.
+/// The rows of all operators. A row's number is its position in this list, from 0.
 pub const OPERATORS: [Row; 52] = operator_rows!(table_of!());
 
 /// The table of all operators.
 pub fn operators() -> CaseTable<52>
     ensures { result.rows ≡ OPERATORS }
 {
-    CaseTable { rows: OPERATORS }
+    let rows = &OPERATORS;
+    CaseTable { rows: *rows }
 }

@@ -4,22 +4,22 @@ ghost use Rattle.asm_tables.specs.Table.{takes, all_taken, filled, all_filled, m
 
 use crate::rows::{Operation, OperatorName, ResultRule};
 
-/// The kind of an argument, or what a row asks for at an argument's place. A term has some kind
+/// The kind of an argument, or what a row asks for at an argument's position. A term has some kind
 /// other than `Any`.
-#[derive(Clone, Copy, Debug, PartialEq, Eq)]
+#[derive(Clone, Copy, PartialEq, Eq)]
 pub enum Kind {
-    /// True or false.
-    Boolean,
+    /// A truth value.
+    Truth,
     /// An integer, whichever numbers its domain allows.
-    Integer,
+    Int,
     /// A string.
-    String,
+    Chars,
     /// A literal of an enumeration or a member of an abstract domain.
     Member,
     /// A tuple.
     Tuple,
     /// A sequence.
-    Sequence,
+    Seq,
     /// A set.
     Set,
     /// What has no value, as `undef`: the type that fits every other.
@@ -29,7 +29,7 @@ pub enum Kind {
 }
 
 /// The kinds of the one or two arguments of a row.
-#[derive(Clone, Copy, Debug)]
+#[derive(Clone, Copy)]
 pub enum Kinds {
     /// One argument.
     One(Kind),
@@ -38,7 +38,7 @@ pub enum Kinds {
 }
 
 /// One case of an operator: its name with one listing of kinds.
-#[derive(Clone, Copy, Debug)]
+#[derive(Clone, Copy)]
 pub struct Row {
     /// The name, as it is written in a text.
     pub name: OperatorName,
@@ -50,8 +50,9 @@ pub struct Row {
     pub operation: Operation,
 }
 
-/// Rows, no two of which match one name with the same kinds. A row's number is its place, from 0.
-#[derive(Clone, Copy, Debug)]
+/// Rows, no two of which match one name with the same kinds. A row's number is its position, from
+/// 0.
+#[derive(Clone, Copy)]
 pub struct CaseTable<const N: usize> {
     /// The rows in order.
     pub rows: [Row; N],
@@ -59,18 +60,18 @@ pub struct CaseTable<const N: usize> {
     ghost distinct: { IsTrue (are_distinct rows) },
 }
 
-/// Whether an argument of this kind may stand where a row has the other.
+/// Whether a row that has the one kind at a position takes an argument of the other there.
 fn takes(row: Kind, kind: Kind) -> bool
     ensures { result ≡ takes row kind }
 {
     match row {
         Kind::Any => true,
-        Kind::Boolean => matches!(kind, Kind::Boolean),
-        Kind::Integer => matches!(kind, Kind::Integer),
-        Kind::String => matches!(kind, Kind::String),
+        Kind::Truth => matches!(kind, Kind::Truth),
+        Kind::Int => matches!(kind, Kind::Int),
+        Kind::Chars => matches!(kind, Kind::Chars),
         Kind::Member => matches!(kind, Kind::Member),
         Kind::Tuple => matches!(kind, Kind::Tuple),
-        Kind::Sequence => matches!(kind, Kind::Sequence),
+        Kind::Seq => matches!(kind, Kind::Seq),
         Kind::Set => matches!(kind, Kind::Set),
         Kind::Untyped => matches!(kind, Kind::Untyped),
     }
@@ -106,14 +107,14 @@ fn admits_all(row: Kinds, kinds: &[Kind]) -> bool
 }
 
 impl Row {
-    /// Whether the row has this name, and these kinds or `Any` in their places.
+    /// Whether the row has this name, and these kinds or `Any` in their positions.
     fn matches(self, name: &str, kinds: &[Kind]) -> bool
         ensures { result ≡ matches name.now kinds.now self }
     {
         self.name.text() == name && takes_all(self.kinds, kinds)
     }
 
-    /// Whether the row would match if each untyped argument had the row's kind at its place.
+    /// Whether the row would match if each untyped argument had the row's kind at its position.
     fn admits(self, name: &str, kinds: &[Kind]) -> bool
         ensures { result ≡ matches name.now (all_filled self.kinds kinds.now) self }
     {
@@ -138,7 +139,7 @@ impl<const N: usize> CaseTable<N> {
     }
 
     /// Whether some row would match the name if each `Untyped` among the kinds were that row's kind
-    /// at its place. Takes no memory.
+    /// at its position. Takes no memory.
     pub fn admits(&self, name: &str, kinds: &[Kind]) -> bool
         ensures { result ≡ admits self.now.rows name.now kinds.now }
     {

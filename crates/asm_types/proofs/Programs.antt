@@ -5,7 +5,7 @@ use Rattle.asm_program.specs.declared.trees.Rule.{Rule}
 use Rattle.asm_program.specs.declared.program.FunctionInfo.{FunctionInfo}
 use Rattle.asm_program.specs.declared.program.Program.{Program}
 use Rattle.asm_program.specs.Typed.{functions_of, is_bare, name_of, main_of, program_if, program_from, program_with, program_of}
-use Rattle.asm_program.specs.TypedLaws.{program_from-few}
+use Rattle.asm_program.proofs.TypedLaws.{program_from-few}
 
 -- the main rule, where the functions are few
 abbrev few_main : ModelTree → List FunctionInfo → Bool → Option Rule

@@ -6,7 +6,7 @@ ghost use Rattle.asm_types.specs.Checks.{Checks};
 use crate::refusal::TypeRefusal;
 use crate::token::name_of;
 use asm_program::FunctionInfo;
-use asm_syntax::{DeclTree, DomainTree, Name, Token};
+use asm_syntax::{DeclTree, DomainTree, Token};
 use asm_value::{Domain, List, Text};
 use std::alloc::Global;
 
@@ -16,9 +16,9 @@ fn domain_of(domain: &DomainTree) -> Option<Domain>
     ensures { result ≡ spec.domain_of domain.now }
 {
     match domain {
-        DomainTree::Boolean(_) => Some(Domain::Truth),
-        DomainTree::Integer(_) => Some(Domain::Int),
-        DomainTree::Natural(_)
+        DomainTree::Truth(_) => Some(Domain::Truth),
+        DomainTree::Int(_) => Some(Domain::Int),
+        DomainTree::Nat(_)
         | DomainTree::Chars(_)
         | DomainTree::Named(_, _)
         | DomainTree::Prod(_, _, _, _)
@@ -27,7 +27,7 @@ fn domain_of(domain: &DomainTree) -> Option<Domain>
     }
 }
 
-fn is_controlled(kind: &Name) -> bool
+fn is_controlled(kind: &Text) -> bool
     ensures { result ≡ spec.is_controlled kind.now }
 {
     kind.as_str() == "controlled"
@@ -40,11 +40,11 @@ fn function_with(
 ) -> Result<FunctionInfo, TypeRefusal>
     ensures { Checks result (spec.function_with name.now (spec.domain_of domain.now)) }
 {
-    let result = domain_of(domain).ok_or(TypeRefusal::Untyped)?;
-    Ok(FunctionInfo {
-        name: Text::from_str(alloc, name_of(name))?,
-        result,
-    })
+    let name = Text::from_str(alloc, name_of(name))?;
+    match domain_of(domain) {
+        Some(result) => Ok(FunctionInfo { name, result }),
+        None => Err(TypeRefusal::Untyped),
+    }
 }
 
 /// The function that is declared. `Untyped` where the declaration is another.
@@ -54,7 +54,7 @@ fn function_of(alloc: Global, decl: &DeclTree) -> Result<FunctionInfo, TypeRefus
     match decl {
         DeclTree::Dynamic(kind, name, domain, None, _) => {
             if is_controlled(kind) {
-                function_with(alloc, name, domain)
+                function_with(alloc, name, domain.get())
             } else {
                 Err(TypeRefusal::Untyped)
             }

@@ -7,8 +7,6 @@ mod names;
 mod refusal;
 mod rule;
 mod scope;
-#[cfg(test)]
-mod tests;
 mod token;
 
 pub use model::check;

@@ -1,8 +1,9 @@
 //! Trees as programs.
-ghost use Rattle.std.specs.Prelude.{◌≡◌, ◌≤◌, nat_le, length, if◌then◌else◌, None, OnOk};
+ghost use Rattle.std.specs.Prelude.{◌≡◌, ◌≤◌, length, OnOk};
 ghost use Rattle.asm_program.specs.Typed as spec;
 ghost use Rattle.asm_program.specs.Typed.{program_of};
 ghost use Rattle.asm_types.specs.Checks.{Checks};
+ghost use Rattle.asm_types.specs.Scopes.{main_of_few};
 
 use crate::decl::functions_of;
 use crate::refusal::TypeRefusal;
@@ -11,7 +12,7 @@ use crate::scope::Scope;
 use crate::token::name_of;
 use asm_program::{FunctionInfo, Program, Rule};
 use asm_syntax::ModelTree;
-use asm_value::Text;
+use asm_value::{Boxed, Text};
 use std::alloc::Global;
 
 /// Whether the model has no definitions and no initial state.
@@ -25,12 +26,16 @@ fn is_bare(tree: &ModelTree) -> bool
 }
 
 /// The main rule. `Untyped` where it is none over these functions, or they are more than 256.
-fn main_of(alloc: Global, tree: &ModelTree, functions: &[FunctionInfo]) -> Result<Rule, TypeRefusal>
-    ensures main { Checks result (if nat_le (length functions.now) 256 then spec.main_of tree.now functions.now else None) }
+fn main_of(
+    alloc: Global,
+    tree: &ModelTree,
+    functions: &[FunctionInfo],
+) -> Result<Boxed<Rule>, TypeRefusal>
+    ensures main { Checks result (main_of_few tree.now functions.now) }
     ensures few { OnOk result (length functions.now ≤ 256) }
 {
     let scope = Scope::new(alloc, tree, functions)?;
-    rule_of(alloc, &scope, &tree.rule)
+    rule_of(alloc, &scope, tree.rule.get())
 }
 
 /// The program of a model. `Untyped` where the tree is none, and then nothing says which of its

@@ -6,7 +6,7 @@ use indexmap::IndexSet;
 use std::alloc::{AllocError, Global};
 use std::marker::Model;
 
-/// Names in the order of their insertion, each once. A name's number is its place, from 0.
+/// Names in the order of their insertion, each once. A name's number is its position, from 0.
 #[derive(Drop)]
 pub(crate) struct Names {
     names: IndexSet<String>,
@@ -30,10 +30,11 @@ impl Names {
         }
     }
 
-    /// Adds a name at the end. `false` says that it stands already, and then nothing changes.
+    /// Adds a name at the end. `false` says that it is there already, and then nothing changes.
     pub(crate) fn insert(&mut self, alloc: Global, name: &str) -> Result<bool, AllocError>
         ensures new { IfOk result (λ new. new ≡ not (list_any (bytes_eq name.now) self.old)) }
-        ensures names { IfOk result (λ new. self.new ≡ (if new then self.old ++ name.now ∷ [] else self.old)) }
+        ensures names { IfOk result (λ new.
+            self.new ≡ (if new then self.old ++ name.now ∷ [] else self.old)) }
     {
         let new = self.names.insert(String::from_str(alloc, name)?)?;
         Ok(new)

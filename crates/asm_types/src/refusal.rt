@@ -4,8 +4,8 @@ use std::alloc::AllocError;
 /// Why a tree is no program.
 #[derive(Clone, Copy, Debug, PartialEq, Eq)]
 pub enum TypeRefusal {
-    /// A name stands twice or isn't declared, more than 256 functions are declared, an update's
-    /// term hasn't its function's domain, a guard isn't Boolean, or a part of the language stands
+    /// A name is declared twice or not at all, more than 256 functions are declared, an update's
+    /// term hasn't its function's domain, a guard has no truth value, or a part of the language is
     /// there that isn't run.
     Untyped,
     /// Memory ran out. It says nothing about the tree.

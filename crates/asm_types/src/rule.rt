@@ -1,5 +1,6 @@
 //! Terms and rules, with numbers for their names.
 ghost use Rattle.std.specs.Prelude.{◌≡◌, ◌∷◌, map, Some};
+ghost use Rattle.asm_program.specs.declared.trees.Rule.TheVariants as rules;
 ghost use Rattle.asm_program.specs.Typed as spec;
 ghost use Rattle.asm_types.specs.Checks.{Checks};
 
@@ -7,13 +8,13 @@ use crate::refusal::TypeRefusal;
 use crate::scope::Scope;
 use crate::token::{name_of, number_of};
 use asm_program::{Rule, Term};
-use asm_syntax::{RuleTree, TermTree};
+use asm_syntax::{RuleTree, TermTree, Token};
 use asm_value::{Boxed, List, Value};
 use std::alloc::Global;
 
-/// A term, and whether it is Boolean: else it is an integer. Takes no memory.
+/// A term, and whether it has a truth value: else it has an integer. Takes no memory.
 #[tactic(auto, using(crate::proofs::Rules::term_steps))]
-fn term_of(scope: &Scope, term: &TermTree) -> Option<(Term, bool)>
+fn term_in(scope: &Scope, term: &TermTree) -> Option<(Term, bool)>
     ensures { result ≡ spec.term_of scope.now term.now }
 {
     match term {
@@ -23,8 +24,8 @@ fn term_of(scope: &Scope, term: &TermTree) -> Option<(Term, bool)>
         TermTree::True(_) => Some((Term::Constant(Value::Truth(true)), true)),
         TermTree::False(_) => Some((Term::Constant(Value::Truth(false)), true)),
         TermTree::Name(token, None, _) => {
-            let (function, is_boolean) = scope.find(name_of(token))?;
-            Some((Term::Read { function }, is_boolean))
+            let (function, is_truth) = scope.find(name_of(token))?;
+            Some((Term::Read { function }, is_truth))
         }
         TermTree::Name(_, Some(_), _)
         | TermTree::Prefix(_, _, _)
@@ -44,62 +45,116 @@ fn term_of(scope: &Scope, term: &TermTree) -> Option<(Term, bool)>
     }
 }
 
+/// The same in a box. `Untyped` where the tree is no term over these functions.
+fn term_of(
+    alloc: Global,
+    scope: &Scope,
+    term: &TermTree,
+) -> Result<(Boxed<Term>, bool), TypeRefusal>
+    ensures { Checks result (spec.term_of scope.now term.now) }
+{
+    match term_in(scope, term) {
+        Some((term, is_truth)) => Ok((Boxed::new(alloc, term)?, is_truth)),
+        None => Err(TypeRefusal::Untyped),
+    }
+}
+
 fn same_domain(left: bool, right: bool) -> bool
     ensures { result ≡ spec.same_domain left right }
 {
     left == right
 }
 
-/// An update, if the term has its function's domain.
-fn update_of(found: Option<(u16, bool)>, value: Option<(Term, bool)>) -> Option<Rule>
-    ensures { result ≡ spec.update_of found value }
+/// An update. `Untyped` where the function isn't declared, or the term hasn't its domain.
+fn update_of(
+    alloc: Global,
+    scope: &Scope,
+    name: &Token,
+    value: &TermTree,
+) -> Result<Boxed<Rule>, TypeRefusal>
+    ensures { Checks result
+        (spec.update_of (spec.find scope.now (spec.name_of name.now))
+        (spec.term_of scope.now value.now)) }
 {
-    let (function, wanted) = found?;
-    let (value, domain) = value?;
-    if same_domain(wanted, domain) {
-        Some(Rule::Update { function, value })
-    } else {
-        None
+    let (value, domain) = term_of(alloc, scope, value)?;
+    match scope.find(name_of(name)) {
+        Some((function, wanted)) => {
+            if same_domain(wanted, domain) {
+                Ok(Boxed::new(alloc, Rule::Update { function, value })?)
+            } else {
+                Err(TypeRefusal::Untyped)
+            }
+        }
+        None => Err(TypeRefusal::Untyped),
     }
 }
 
-/// A guard, if the term is Boolean.
-fn guard_of(term: Option<(Term, bool)>) -> Option<Term>
-    ensures { result ≡ spec.guard_of term }
+/// A guard. `Untyped` where the term has no truth value.
+fn guard_of(alloc: Global, scope: &Scope, guard: &TermTree) -> Result<Boxed<Term>, TypeRefusal>
+    ensures { Checks result (spec.guard_of (spec.term_of scope.now guard.now)) }
 {
-    let (term, is_boolean) = term?;
-    if is_boolean { Some(term) } else { None }
+    let (guard, is_truth) = term_of(alloc, scope, guard)?;
+    if is_truth {
+        Ok(guard)
+    } else {
+        Err(TypeRefusal::Untyped)
+    }
+}
+
+fn skip(alloc: Global) -> Result<Boxed<Rule>, TypeRefusal>
+    ensures { Checks result (Some rules.Skip) }
+{
+    Ok(Boxed::new(alloc, Rule::Skip)?)
+}
+
+fn choice(
+    alloc: Global,
+    guard: Boxed<Term>,
+    first: Boxed<Rule>,
+    other: Boxed<Rule>,
+) -> Result<Boxed<Rule>, TypeRefusal>
+    ensures { Checks result (Some (rules.If guard first other)) }
+{
+    let rule = Rule::If {
+        guard,
+        then: first,
+        other,
+    };
+    Ok(Boxed::new(alloc, rule)?)
+}
+
+fn all_at_once(alloc: Global, parts: List<Boxed<Rule>>) -> Result<Boxed<Rule>, TypeRefusal>
+    ensures { Checks result (Some (rules.Par parts)) }
+{
+    Ok(Boxed::new(alloc, Rule::Par { parts })?)
 }
 
 /// The rule with numbers for its names. `Untyped` where a name isn't declared, an update's term
-/// hasn't its function's domain, a guard isn't Boolean, or a form of rule or term isn't run.
+/// hasn't its function's domain, a guard has no truth value, or a form of rule or term isn't run.
 #[cycle(rules)]
 #[tactic(auto, using(crate::proofs::Rules::rule_steps))]
-pub(crate) fn rule_of(alloc: Global, scope: &Scope, rule: &RuleTree) -> Result<Rule, TypeRefusal>
+pub(crate) fn rule_of(
+    alloc: Global,
+    scope: &Scope,
+    rule: &RuleTree,
+) -> Result<Boxed<Rule>, TypeRefusal>
     ensures { Checks result (spec.rule_of scope.now rule.now) }
 {
     match rule {
-        RuleTree::Skip(_) => Ok(Rule::Skip),
-        RuleTree::Update(name, None, value, _) => {
-            let found = scope.find(name_of(name));
-            update_of(found, term_of(scope, value)).ok_or(TypeRefusal::Untyped)
-        }
+        RuleTree::Skip(_) => skip(alloc),
+        RuleTree::Update(name, None, value, _) => update_of(alloc, scope, name, value.get()),
         RuleTree::Par(first, others, _) => {
             let first = rule_of(alloc, scope, first.get())?;
             par_of(alloc, scope, others.as_slice(), first)
         }
-        RuleTree::If(guard, then, otherwise, _) => {
-            let guard = guard_of(term_of(scope, guard)).ok_or(TypeRefusal::Untyped)?;
+        RuleTree::If(guard, then, other, _) => {
+            let guard = guard_of(alloc, scope, guard.get())?;
             let then = rule_of(alloc, scope, then.get())?;
-            let otherwise = match otherwise {
-                None => Rule::Skip,
-                Some(otherwise) => rule_of(alloc, scope, otherwise.get())?,
+            let other = match other {
+                None => skip(alloc)?,
+                Some(other) => rule_of(alloc, scope, other.get())?,
             };
-            Ok(Rule::If {
-                guard,
-                then: Boxed::new(alloc, then)?,
-                otherwise: Boxed::new(alloc, otherwise)?,
-            })
+            choice(alloc, guard, then, other)
         }
         RuleTree::Update(_, Some(_), _, _)
         | RuleTree::Call(_, _, _)
@@ -118,15 +173,14 @@ pub(crate) fn rule_of(alloc: Global, scope: &Scope, rule: &RuleTree) -> Result<R
 fn par_of(
     alloc: Global,
     scope: &Scope,
-    others: &[RuleTree],
-    first: Rule,
-) -> Result<Rule, TypeRefusal>
+    others: &[Boxed<RuleTree>],
+    first: Boxed<Rule>,
+) -> Result<Boxed<Rule>, TypeRefusal>
     ensures { Checks result (spec.par_of (Some first ∷ map (spec.rule_of scope.now) others.now)) }
 {
-    let mut parts = List::new(alloc);
-    parts.push(first)?;
+    let mut parts = List::only(alloc, first)?;
     for part in others {
-        parts.push(rule_of(alloc, scope, part)?)?;
+        parts.push(rule_of(alloc, scope, part.get())?)?;
     }
-    Ok(Rule::Par { parts })
+    all_at_once(alloc, parts)
 }

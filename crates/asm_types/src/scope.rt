@@ -1,8 +1,8 @@
 //! The functions of a model, to be looked up by their names.
-ghost use Rattle.std.specs.Prelude.{◌≡◌, nat_le, length, map, ◌&&◌, if◌then◌else◌, Some, None, IfOk};
+ghost use Rattle.std.specs.Prelude.{◌≡◌, IfOk};
 ghost use Rattle.asm_program.specs.Typed as spec;
-ghost use Rattle.asm_program.specs.Typed.{differ};
 ghost use Rattle.asm_types.specs.Checks.{Checks};
+ghost use Rattle.asm_types.specs.Scopes.{distinct_names, scope_of};
 
 use crate::names::Names;
 use crate::refusal::TypeRefusal;
@@ -16,7 +16,7 @@ use std::marker::Model;
 /// As many functions as a model may declare.
 const MAX_FUNCTIONS: usize = 256;
 
-/// At most 256 functions, by their names. No name stands twice.
+/// At most 256 functions, by their names. No name is there twice.
 #[derive(Drop)]
 pub(crate) struct Scope<'a> {
     functions: &'a [FunctionInfo],
@@ -36,12 +36,13 @@ impl<'a> Model for Scope<'a> {
 
     ghost view = { λ s. s.functions.now };
 
-    ghost invariant = { λ s. (s.names ≡ map function_name s.functions.now) × (length s.functions.now ≤ 256) };
+    ghost invariant = { λ s.
+        (s.names ≡ map function_name s.functions.now) × (length s.functions.now ≤ 256) };
 }
 
-/// The names of the functions, if each stands once.
+/// The names of the functions, if each is there once.
 fn names_of(alloc: Global, functions: &[FunctionInfo]) -> Result<Option<Names>, AllocError>
-    ensures { IfOk result (λ names. names ≡ (if differ (map spec.function_name functions.now) then Some (map spec.function_name functions.now) else None)) }
+    ensures { IfOk result (λ names. names ≡ distinct_names functions.now) }
 {
     let mut names = Names::new(alloc);
     for function in functions {
@@ -71,14 +72,14 @@ fn is_truth(domain: &Domain) -> bool
 }
 
 impl<'a> Scope<'a> {
-    /// The functions of a model. `Untyped` where they are more than 256, or a name stands twice among
+    /// The functions of a model. `Untyped` where they are more than 256, or a name is twice among
     /// theirs and the main rule's.
     pub(crate) fn new(
         alloc: Global,
         tree: &ModelTree,
         functions: &'a [FunctionInfo],
     ) -> Result<Scope<'a>, TypeRefusal>
-        ensures { Checks result (if nat_le (length functions.now) 256 && differ (spec.names_of tree.now functions.now) then Some functions.now else None) }
+        ensures { Checks result (scope_of tree.now functions.now) }
     {
         if functions.len() > MAX_FUNCTIONS {
             return Err(TypeRefusal::Untyped);
@@ -95,7 +96,7 @@ impl<'a> Scope<'a> {
         }
     }
 
-    /// The number of a function, and whether it is Boolean. Takes no memory.
+    /// The number of a function, and whether it has truth values. Takes no memory.
     pub(crate) fn find(&self, name: &str) -> Option<(u16, bool)>
         ensures { result ≡ spec.find self.now name.now }
     {

@@ -1,4 +1,4 @@
-use Rattle.asm_tables.specs.TableLaws.{only_match}
+use Rattle.asm_tables.proofs.TableLaws.{only_match}
 use Rattle.asm_tables.proofs.laws.at_most_one_row_matches.Goals as goal
 
 pub returns : goal.returns

@@ -13,5 +13,5 @@ rule_of-returns-in_ok-first-in-Par t c =
     search (rules, the_lemmas, c.in-Par.is) in
     let is : made c.args.rule.now ≡ par_of (Some c.in_ok-first-in-Par.first ∷ map made c.as_slice.result.now) =
     rule_of-Par c.args.scope.now c.args.rule.now _ _ _ opened
-    ∙ (λ i. par_of ((ap made (sym c.get.ensures) ∙ c.in_ok-first-in-Par.ensures) i ∷ map made (sym c.as_slice.ensures i))) in
+    ∙ (λ i. par_of ((ap made (sym c.get-in-Par.ensures) ∙ c.in_ok-first-in-Par.ensures) i ∷ map made (sym c.as_slice.ensures i))) in
     subst (Checks c.par_of.result) (sym is) c.par_of.ensures

@@ -1,6 +1,0 @@
--- So is the program of its tree.
-use Rattle.asm_texts.proofs.Texts.{program_sound, program_complete}
-use Rattle.asm_texts.proofs.laws.a_text_has_its_program.Goals as goal
-
-pub returns : goal.returns
-returns c text program = (program_sound text program, program_complete text program)

@@ -1,6 +1,0 @@
--- Reading and parsing are exact for a text.
-use Rattle.asm_texts.proofs.Texts.{tree_sound, tree_complete}
-use Rattle.asm_texts.proofs.laws.a_text_has_its_tree.Goals as goal
-
-pub returns : goal.returns
-returns c text tree = (tree_sound text tree, tree_complete text tree)

@@ -1,9 +1,0 @@
-//! The tree and the program of a text as functions on its bytes, what is told of a text that has none,
-//! and that they are exact.
-//!
-//! It holds definitions and laws alone, and no code that runs.
-#![tactic(auto)]
-
-mod laws;
-
-pub use laws::{a_bad_text_is_told, a_text_has_its_program, a_text_has_its_tree};
