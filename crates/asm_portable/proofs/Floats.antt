@@ -10,8 +10,8 @@ use Rattle.asm_portable.specs.declared.port.Field.{Field}
 use Rattle.asm_portable.specs.declared.port.Port.TheOpen.{Port-F}
 use Rattle.asm_portable.specs.declared.port.Port.TheFolds.{ind-Port, map-Port}
 use Rattle.asm_portable.specs.declared.port.Port.TheViews.{out-Port, roll-Port, the_lemmas}
-use Rattle.asm_portable.specs.Json.{data_of, data_level, integer_data, is_json_integer, put_all}
-use Rattle.asm_portable.specs.JsonLaws.{field_data, data_of-out}
+use Rattle.asm_portable.specs.Json.{data_of, data_level, field_data, integer_data, is_json_integer, put_all}
+use Rattle.asm_portable.proofs.JsonLaws.{data_of-out}
 
 either : (a b : Bool) → a ≡ false → b ≡ false → (a || b) ≡ false
 either a b e h = cc

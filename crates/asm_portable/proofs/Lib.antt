@@ -1,1 +1,7 @@
 mod Floats
+mod Puts
+pub mod Ascending
+pub mod PortLaws
+pub mod JsonLaws
+pub mod ValuesLaws
+pub mod WeightLaws

@@ -7,6 +7,7 @@ use Rattle.serde_json.specs.Find.{of_integer}
 use Rattle.serde_json.specs.View.{items_of}
 use Rattle.serde_json.specs.Written.{compact_text}
 use Rattle.asm_portable.specs.declared.port.Port.{Port}
+use Rattle.asm_portable.specs.declared.port.Field.{Field}
 use Rattle.asm_portable.specs.declared.port.Port.TheOpen.{Port-F}
 use Rattle.asm_portable.specs.declared.port.Port.TheFolds.{fold-Port}
 
@@ -17,7 +18,8 @@ is_json_integer (negsuc n) = nat_lt n (2 ^ 63)
 
 -- any other integer is a string of its digits
 abbrev pub integer_data : ℤ → Data
-integer_data n = if is_json_integer n then json.number (of_integer n) else json.string (signed_decimal n)
+integer_data n =
+    if is_json_integer n then json.number (of_integer n) else json.string (signed_decimal n)
 
 -- members that are put one after another; the last of one key counts
 abbrev pub put_all : Members → List (List ℕ × Data) → Members
@@ -35,6 +37,10 @@ data_level (Port-F.Fields fields) = json.object (put_all no_members fields)
 
 unfoldable pub data_of : Port → Data
 data_of = fold-Port Data (List ℕ × Data) data_level (λ f. (f.key, f.tree))
+
+-- a field's key and the JSON of its tree
+abbrev pub field_data : Field → List ℕ × Data
+field_data f = (f.key, data_of f.tree)
 
 -- The compact text of a tree, as `serde_json` writes it.
 abbrev pub json_text : Port → List ℕ

@@ -1,11 +1,9 @@
 -- Portable trees, as definitions write them.
 use Rattle.std.specs.Prelude.{ℕ, pos, List, [], ◌∷◌}
-use Rattle.std.specs.declared.cmp.Ordering.TheVariants.{Less, Equal, Greater}
-use Rattle.std.specs.Ordering.{nat_cmp}
-use Rattle.std.specs.Cmp.Lexicographic.{slice_cmp}
 use Rattle.asm_portable.specs.declared.port.Port.{Port}
 use Rattle.asm_portable.specs.declared.port.Port.TheVariants as ports
 use Rattle.asm_portable.specs.declared.port.Field.{Field}
+use Rattle.asm_portable.specs.Ascending.{put_by, AscendsBy}
 
 abbrev pub text : List ℕ → Port
 text bytes = ports.Text bytes
@@ -22,12 +20,15 @@ field key tree = record { key = key; tree = tree }
 abbrev pub fields : List Field → Port
 fields fs = ports.Fields fs
 
--- a field in its place among fields that ascend by key; it takes the place of one with its key
+-- a field before those of greater keys, in place of one with its key
 abbrev pub put_field : Field → List Field → List Field
-put_field f [] = f ∷ []
-put_field f (g ∷ gs) = elim (slice_cmp nat_cmp f.key g.key) as (λ _. List Field) [ Less ↦ f ∷ g ∷ gs | Equal ↦ f ∷ gs | Greater ↦ g ∷ put_field f gs ]
+put_field f fs = put_by (λ g. g.key) f fs
 
--- the fields, ascending by key
+-- the fields, ascending by key; of equal keys the first counts
 abbrev pub ascending : List Field → List Field
 ascending [] = []
 ascending (f ∷ fs) = put_field f (ascending fs)
+
+-- each key is below those after it
+abbrev pub AscendByKey : List Field → Type 0
+AscendByKey fs = AscendsBy (λ f. f.key) fs

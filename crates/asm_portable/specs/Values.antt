@@ -26,12 +26,15 @@ numbered domain index = domain ++ codes "!" ++ decimal index
 
 -- a literal or a constant goes by its name
 abbrev pub member_of_kind : List ℕ → ℕ → DomainKind → List ℕ
-member_of_kind domain index (kinds.Enum names) = option_map_or (λ name. name) (slice_get names index) []
-member_of_kind domain index (kinds.Abstract names) = option_map_or (λ name. name) (slice_get names index) (numbered domain index)
+member_of_kind domain index (kinds.Enum names) =
+    option_map_or (λ name. name) (slice_get names index) []
+member_of_kind domain index (kinds.Abstract names) =
+    option_map_or (λ name. name) (slice_get names index) (numbered domain index)
 member_of_kind domain index (kinds.Subset numbers) = []
 
 abbrev pub member_name : List DomainInfo → ℕ → ℕ → List ℕ
-member_name domains domain index = option_map_or (λ info. member_of_kind info.name index info.kind) (slice_get domains domain) []
+member_name domains domain index =
+    option_map_or (λ info. member_of_kind info.name index info.kind) (slice_get domains domain) []
 
 -- one level of a value, with the tree of each part in its place
 abbrev pub port_level : List DomainInfo → Value-F Port → Port

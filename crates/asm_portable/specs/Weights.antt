@@ -1,13 +1,10 @@
 -- The weight of a portable tree, which is this project's own.
-use Rattle.std.specs.Prelude.{ℕ, ◌+◌, ◌/◌, ◌^◌, ◌-◌, min, List, length, sum, sum_by}
+use Rattle.std.specs.Prelude.{ℕ, ◌+◌, ◌^◌, ◌-◌, min, List, sum, sum_by}
+use Rattle.asm_base.specs.Weight.{text_weight}
 use Rattle.asm_portable.specs.declared.port.Port.{Port}
 use Rattle.asm_portable.specs.declared.port.Port.TheOpen.{Port-F}
 use Rattle.asm_portable.specs.declared.port.Port.TheFolds.{fold-Port}
 use Rattle.asm_portable.specs.declared.port.Field.{Field}
-
--- a string of b bytes weighs 1 + b / 32
-abbrev pub text_weight : List ℕ → ℕ
-text_weight bytes = 1 + length bytes / 32
 
 -- one level of a tree, with the weight of each part in its place
 abbrev pub weight_level : Port-F ℕ ℕ → ℕ

@@ -2,8 +2,7 @@
 ghost use Rattle.std.specs.Prelude.{◌≡◌, map, IfOk};
 ghost use Rattle.serde_json.specs.Data.{no_members};
 ghost use Rattle.serde_json.specs.View.{view, members_view};
-ghost use Rattle.asm_portable.specs.Json.{data_of, integer_data, json_text, put_all};
-ghost use Rattle.asm_portable.specs.JsonLaws.{field_data};
+ghost use Rattle.asm_portable.specs.Json.{data_of, field_data, integer_data, json_text, put_all};
 
 use crate::port::{Field, Port};
 use asm_value::Text;
@@ -11,13 +10,13 @@ use serde_json::{Map, Value};
 use std::alloc::{AllocError, Global};
 
 /// The compact JSON text of a tree. An integer that is neither one of 64 bits nor below 2^64
-/// stands as a string of its digits.
+/// is a string of its digits.
 #[tactic(auto, using(crate::proofs::Floats::no_float))]
 pub fn port_text(alloc: Global, port: &Port) -> Result<Text, AllocError>
     ensures { IfOk result (λ text. text ≡ json_text port.now) }
 {
     let text = tree_json(alloc, port)?.to_string(alloc)?;
-    Text::from_str(alloc, text.as_str())
+    Ok(Text::from_string(text))
 }
 
 fn integer_json(alloc: Global, number: i128) -> Result<Value, AllocError>
@@ -33,7 +32,7 @@ fn integer_json(alloc: Global, number: i128) -> Result<Value, AllocError>
 }
 
 #[cycle(json)]
-#[tactic(auto, using(crate::specs::JsonLaws::port_steps))]
+#[tactic(auto, using(crate::proofs::JsonLaws::port_steps))]
 fn tree_json(alloc: Global, port: &Port) -> Result<Value, AllocError>
     ensures { IfOk result (λ json. view json ≡ data_of port.now) }
 {
@@ -48,7 +47,7 @@ fn tree_json(alloc: Global, port: &Port) -> Result<Value, AllocError>
 }
 
 #[cycle(json)]
-#[tactic(auto, using(crate::specs::JsonLaws::port_steps))]
+#[tactic(auto, using(crate::proofs::JsonLaws::port_steps))]
 fn trees_json(alloc: Global, trees: &[Port]) -> Result<Vec<Value>, AllocError>
     ensures { IfOk result (λ items. map view items.items ≡ map data_of trees.now) }
 {
@@ -60,7 +59,7 @@ fn trees_json(alloc: Global, trees: &[Port]) -> Result<Vec<Value>, AllocError>
 }
 
 #[cycle(json)]
-#[tactic(auto, using(crate::specs::JsonLaws::port_steps))]
+#[tactic(auto, using(crate::proofs::JsonLaws::port_steps))]
 fn members_json(alloc: Global, fields: &[Field]) -> Result<Map<String, Value>, AllocError>
     ensures { IfOk result
         (λ members. members_view members.entries ≡ put_all no_members (map field_data fields.now)) }

@@ -3,11 +3,9 @@
 
 mod json;
 mod port;
-#[cfg(test)]
-mod tests;
 mod values;
 mod weight;
 
 pub use json::port_text;
-pub use port::{Field, Port, push_field};
+pub use port::{Field, Port, push_field, put_field};
 pub use values::{port_of, ports_of};

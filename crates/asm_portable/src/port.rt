@@ -1,9 +1,11 @@
 //! Portable trees.
-ghost use Rattle.std.specs.Prelude.{◌≡◌, [], ◌∷◌, ◌++◌, IfOk, OnOk, OnErr};
+ghost use Rattle.std.specs.Prelude.{◌≡◌, ◌<◌, ◌≤◌, [], ◌∷◌, ◌++◌, length, IfOk, OnOk, OnErr, IsTrue, insert, slice_set, if◌then◌else◌};
 ghost use Rattle.asm_portable.specs.Ports as spec;
+ghost use Rattle.asm_portable.specs.declared.port.Field.{Field as Fields};
 
 use asm_value::{List, Text};
 use std::alloc::{AllocError, Global};
+use std::cmp::Ordering;
 
 /// A portable tree: what JSON says, with integers and without floats.
 #[derive(Debug, Drop)]
@@ -43,7 +45,7 @@ impl Port {
 
     /// An equal tree.
     #[cycle(copy)]
-    #[tactic(auto, using(crate::specs::PortLaws::tree_steps))]
+    #[tactic(auto, using(crate::proofs::PortLaws::tree_steps))]
     pub fn copy(&self, alloc: Global) -> Result<Port, AllocError>
         ensures { IfOk result (λ port. port ≡ self.now) }
     {
@@ -95,7 +97,7 @@ impl Field {
     }
 }
 
-/// Puts a tree under a copy of the key behind the fields. On an error they are as they were.
+/// Puts a tree under a copy of the key after the fields. On an error they are as they were.
 pub fn push_field(
     alloc: Global,
     fields: &mut List<Field>,
@@ -106,4 +108,34 @@ pub fn push_field(
     ensures err { OnErr result (fields.new ≡ fields.old) }
 {
     fields.push(Field::new(alloc, key, tree)?)
+}
+
+/// Where a key is, or belongs, among fields that ascend by key.
+fn position_of(fields: &[Field], key: &Text) -> (usize, bool)
+    ensures within { result.0 ≤ length fields.now }
+    ensures there { IsTrue result.1 → result.0 < length fields.now }
+    ensures at { (f : Fields) → f.key ≡ key.now → spec.put_field f fields.now
+        ≡ (if result.1 then slice_set fields.now result.0 f else insert fields.now result.0 f) }
+{
+    for (at, field) in fields.iter().enumerate() {
+        match key.cmp(&field.key) {
+            Ordering::Less => return (at, false),
+            Ordering::Equal => return (at, true),
+            Ordering::Greater => {}
+        }
+    }
+    (fields.len(), false)
+}
+
+/// Puts a field among fields that ascend by key, in place of one with its key.
+pub fn put_field(fields: &mut Vec<Field>, field: Field) -> Result<(), AllocError>
+    ensures { OnOk result (fields.new.items ≡ spec.put_field field fields.old.items) }
+{
+    let (at, there) = position_of(fields.as_slice(), &field.key);
+    if there {
+        fields[at] = field;
+    } else {
+        fields.insert(at, field)?;
+    }
+    Ok(())
 }

@@ -53,7 +53,7 @@ fn member_name(
 /// The tree of a value: undef is null, an integer beyond 64 bits the string of its digits, and a
 /// member its name. A tuple, a sequence and a set are lists of their parts.
 #[cycle(values)]
-#[tactic(auto, using(crate::specs::ValuesLaws::value_steps))]
+#[tactic(auto, using(crate::proofs::ValuesLaws::value_steps))]
 pub fn port_of(alloc: Global, domains: &Domains, value: &Value) -> Result<Port, AllocError>
     ensures { IfOk result (λ port. port ≡ port_of domains.now value.now) }
 {
@@ -73,7 +73,7 @@ pub fn port_of(alloc: Global, domains: &Domains, value: &Value) -> Result<Port, 
 
 /// The trees of values, in their order.
 #[cycle(values)]
-#[tactic(auto, using(crate::specs::ValuesLaws::value_steps))]
+#[tactic(auto, using(crate::proofs::ValuesLaws::value_steps))]
 pub fn ports_of(
     alloc: Global,
     domains: &Domains,

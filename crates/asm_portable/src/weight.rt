@@ -5,7 +5,7 @@ ghost use Rattle.asm_portable.specs.Weights.{whole_weight, fields_weight};
 
 use crate::port::{Field, Port};
 
-#[tactic(auto, using(crate::specs::WeightLaws::weight_steps))]
+#[tactic(auto, using(crate::proofs::WeightLaws::weight_steps))]
 impl Port {
     /// The weight in units, which are this project's own: a text 1 and 1 more for each whole 32
     /// bytes; a list 1 and its items; fields 1 and, for each, its key and its tree; all else 1.

@@ -1,8 +1,7 @@
 use Rattle.std.proofs.Common.{◌≡◌, map, take, drop}
 use Rattle.serde_json.specs.Data.{no_members}
 use Rattle.serde_json.specs.View.{view, members_view}
-use Rattle.asm_portable.specs.Json.{data_of, put_all}
-use Rattle.asm_portable.specs.JsonLaws.{field_data}
+use Rattle.asm_portable.specs.Json.{data_of, field_data, put_all}
 use Rattle.asm_portable.proofs.json.+json.Given as goal
 
 abbrev pub invariant-trees_json-loop-tree : goal.invariant-trees_json-loop-tree

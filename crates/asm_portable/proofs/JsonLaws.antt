@@ -10,12 +10,8 @@ use Rattle.asm_portable.specs.declared.port.Port.{Port}
 use Rattle.asm_portable.specs.declared.port.Port.TheVariants as ports
 use Rattle.asm_portable.specs.declared.port.Field.{Field}
 use Rattle.asm_portable.specs.declared.port.Port.TheFolds.{fold-Field, fold_out-Port, fold_out-Field, map-Port}
-use Rattle.asm_portable.specs.declared.port.Port.TheViews.{out-Port, out-Field, roll-Port, the_lemmas}
-use Rattle.asm_portable.specs.Json.{data_of, data_level, put_all, json_text}
-
--- a field's key and the JSON of its tree
-abbrev pub field_data : Field → List ℕ × Data
-field_data f = (f.key, data_of f.tree)
+use Rattle.asm_portable.specs.declared.port.Port.TheViews.{out-Port, the_lemmas}
+use Rattle.asm_portable.specs.Json.{data_of, data_level, field_data, put_all, json_text}
 
 folded : Field → List ℕ × Data
 folded = fold-Field Data (List ℕ × Data) data_level (λ f. (f.key, f.tree))

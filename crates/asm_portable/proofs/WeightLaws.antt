@@ -6,7 +6,8 @@ use Rattle.asm_portable.specs.declared.port.Port.TheVariants as ports
 use Rattle.asm_portable.specs.declared.port.Field.{Field}
 use Rattle.asm_portable.specs.declared.port.Port.TheFolds.{fold-Field, fold_out-Port, fold_out-Field, map-Port}
 use Rattle.asm_portable.specs.declared.port.Port.TheViews.{out-Port, the_lemmas}
-use Rattle.asm_portable.specs.Weights.{text_weight, weight_level, whole_weight, fields_weight}
+use Rattle.asm_base.specs.Weight.{text_weight}
+use Rattle.asm_portable.specs.Weights.{weight_level, whole_weight, fields_weight}
 
 -- the weight of one field
 abbrev pub field_weight : Field → ℕ
