@@ -1,4 +1,4 @@
--- What the one-thread server answers, which journals are legal, and how a prepared change is settled.
+-- What the one-thread server answers, which journals are legal, how a prepared change is settled.
 use Rattle.std.specs.Prelude.{ℕ, ◌+◌, ◌≡◌, Bool, ◌&&◌, Option, Some, None, List, [], ◌∷◌, length, option_map, if◌then◌else◌, nat_lt, nat_le, ◌==◌}
 use Rattle.asm_board.specs.declared.board.Board.{Board}
 use Rattle.asm_board.specs.declared.call.Call.{Call}
@@ -35,28 +35,38 @@ entry_at board seat c body = record { seat = seat; number = board.front + 1; cal
 abbrev pub told : ℕ → Body → List ℕ → Reply
 told at body tail = record { at = at; body = body; tail = tail }
 
--- what a body, told by this tail, comes to at a board: a refusal, or an entry if there is room for it
+-- what a body with this tail comes to at a board: a refusal, or an entry if there is room for it
 abbrev pub with_room : ℕ → Board → ℕ → Call → ℕ → Body → List ℕ → Answer
-with_room room board seat c weight (bodies.No why) tail = record { reply = told board.front (bodies.No why) tail; entry = None }
+with_room room board seat c weight (bodies.No why) tail =
+    record { reply = told board.front (bodies.No why) tail; entry = None }
 with_room room board seat c weight (bodies.Ok tree) tail =
-    if nat_lt room (board.weight + weight) then without_entry board.front (bodies.No (journal_full weight board.weight))
-    else record { reply = told (board.front + 1) (bodies.Ok tree) tail; entry = Some (entry_at board seat c (bodies.Ok tree)) }
+    if nat_lt room (board.weight + weight) then
+    without_entry board.front (bodies.No (journal_full weight board.weight))
+    else record {
+      reply = told (board.front + 1) (bodies.Ok tree) tail;
+      entry = Some (entry_at board seat c (bodies.Ok tree));
+    }
 
--- a new model needs a place besides
+-- a new model is one more besides
 abbrev pub outcome : ℕ → Board → ℕ → Call → Bool → ℕ → Body → List ℕ → Answer
 outcome room board seat c loads weight body tail =
-    if loads && nat_le model_limit (length board.slots) then without_entry board.front (bodies.No (models_full model_limit))
+    if loads && nat_le model_limit (length board.slots) then
+    without_entry board.front (bodies.No (models_full model_limit))
     else with_room room board seat c weight body tail
 
 -- ---- the one-thread server
 
 module _ (m : Meanings) where
   abbrev pub answer_change : ℕ → Board → ℕ → Call → Answer
-  answer_change room board seat c = outcome room board seat c (loads_at board c) (weight_at m board c) (body_at m board c) (tail_of (body_at m board c))
+  answer_change room board seat c =
+      outcome room board seat c (loads_at board c) (weight_at m board c)
+      (body_at m board c) (tail_of (body_at m board c))
 
   -- the answer at a board
   abbrev pub answer_at : ℕ → Board → ℕ → Call → Answer
-  answer_at room board seat c = if is_change c then answer_change room board seat c else without_entry board.front (body_at m board c)
+  answer_at room board seat c =
+      if is_change c then answer_change room board seat c
+      else without_entry board.front (body_at m board c)
 
   -- The answer to a call after a journal. The journal goes on with its entry, if it has one.
   abbrev pub answer : ℕ → List Entry → ℕ → Call → Answer
@@ -67,7 +77,9 @@ module _ (m : Meanings) where
   -- from this board on, each entry is the one that the one-thread server makes there
   abbrev pub LegalFrom : ℕ → Board → List Entry → Type 0
   LegalFrom room board [] = Unit {0}
-  LegalFrom room board (e ∷ es) = ((answer_at room board e.seat e.call).entry ≡ Some e) × LegalFrom room (applied m board e) es
+  LegalFrom room board (e ∷ es) =
+      ((answer_at room board e.seat e.call).entry ≡ Some e)
+      × LegalFrom room (applied m board e) es
 
   -- Each entry is the accepted change that the one-thread server makes after those before it.
   abbrev pub Legal : ℕ → List Entry → Type 0
@@ -95,7 +107,9 @@ pub data Verdict : Type 0 where
 -- the first model whose version is another, with both versions
 abbrev pub first_stale : List NameVersion → Board → Option (List ℕ × (ℕ × ℕ))
 first_stale [] board = None
-first_stale (v ∷ vs) board = if v.version == version_of board v.name then first_stale vs board else Some (v.name, (v.version, version_of board v.name))
+first_stale (v ∷ vs) board =
+    if v.version == version_of board v.name then first_stale vs board
+    else Some (v.name, (v.version, version_of board v.name))
 
 abbrev pub unless_stale : Option (List ℕ × (ℕ × ℕ)) → Answer → Verdict
 unless_stale None answered = Settled answered
@@ -107,7 +121,8 @@ outcome_of room board seat p = outcome room board seat p.call p.loads p.weight p
 
 -- a prepared change at a board that may be later than its own
 abbrev pub settle_at : ℕ → Board → ℕ → Prepared → Verdict
-settle_at room board seat p = unless_stale (first_stale p.versions board) (outcome_of room board seat p)
+settle_at room board seat p =
+    unless_stale (first_stale p.versions board) (outcome_of room board seat p)
 
 abbrev pub settle : Meanings → ℕ → List Entry → ℕ → Prepared → Verdict
 settle m room journal seat p = settle_at room (board_of m journal) seat p

@@ -51,10 +51,7 @@ body_weight c (bodies.No why) = 0
 -- a load under a right name that isn't taken
 abbrev pub is_new_model : Models → Call → Bool
 is_new_model models (call.Load name source) = is_right_name name && is_none (slot_in models name)
-is_new_model models (call.Run source steps) = false
-is_new_model models (call.Step formula) = false
-is_new_model models (call.State name) = false
-is_new_model models call.Models = false
+is_new_model models _ = false
 
 -- the models of which a change speaks, as they are on a board: all that it depends on
 abbrev pub spoken_of : Board → Call → Models
@@ -69,8 +66,11 @@ versions_at board c = versions_in board.slots (footprint c)
 
 -- the board with one more entry of this weight, whose number is the version of all that it changed
 abbrev pub with_entry : Board → ℕ → List Changed → Board
-with_entry board weight slots =
-    record { front = board.front + 1; weight = capped (board.weight + weight); slots = changed (board.front + 1) board.slots slots }
+with_entry board weight slots = record {
+  front = board.front + 1;
+  weight = capped (board.weight + weight);
+  slots = changed (board.front + 1) board.slots slots;
+}
 
 module _ (m : Meanings) where
   abbrev pub change_at : Board → Call → Change
@@ -78,7 +78,9 @@ module _ (m : Meanings) where
 
   -- what a call gives at a board, were there room
   abbrev pub body_at : Board → Call → Body
-  body_at board c = if is_change c then body_of_change (change_at board c) else body_of_read (read m board.slots c)
+  body_at board c =
+      if is_change c then body_of_change (change_at board c)
+      else body_of_read (read m board.slots c)
 
   abbrev pub slots_at : Board → Call → List Changed
   slots_at board c = if is_change c then slots_of_change (change_at board c) else []
@@ -88,7 +90,8 @@ module _ (m : Meanings) where
 
   -- the board after one more entry
   abbrev pub applied : Board → Entry → Board
-  applied board entry = with_entry board (body_weight entry.call entry.body) (slots_at board entry.call)
+  applied board entry =
+      with_entry board (body_weight entry.call entry.body) (slots_at board entry.call)
 
   -- The board of a journal.
   unfoldable pub board_of : List Entry → Board

@@ -4,22 +4,19 @@ use Rattle.asm_portable.specs.declared.port.Port.{Port}
 use Rattle.asm_portable.specs.Ports.{text, number}
 use Rattle.asm_portable.specs.Weights.{whole_weight}
 use Rattle.asm_board.specs.declared.call.Call.{Call}
-use Rattle.asm_board.specs.declared.call.Call.TheVariants.{Run, Load, Step, State, Models}
+use Rattle.asm_board.specs.declared.call.Call.TheVariants.{Run, Load, Step, State}
 
+-- the call may change the models
 abbrev pub is_change : Call → Bool
-is_change (Run source steps) = false
 is_change (Load name source) = true
 is_change (Step formula) = true
-is_change (State name) = false
-is_change Models = false
+is_change _ = false
 
 -- The models of which a change speaks. A read has none.
 abbrev pub footprint : Call → List (List ℕ)
-footprint (Run source steps) = []
 footprint (Load name source) = name ∷ []
 footprint (Step formula) = formula ∷ []
-footprint (State name) = []
-footprint Models = []
+footprint _ = []
 
 -- what the fields of the request are, other than its operation
 abbrev pub present_fields : Call → List Port
@@ -27,7 +24,7 @@ present_fields (Run source steps) = text source ∷ number steps ∷ []
 present_fields (Load name source) = text name ∷ text source ∷ []
 present_fields (Step formula) = text formula ∷ []
 present_fields (State name) = text name ∷ []
-present_fields Models = []
+present_fields _ = []
 
 -- a weight of 2^64 or more counts as 2^64 - 1
 abbrev pub capped : ℕ → ℕ

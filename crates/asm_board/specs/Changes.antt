@@ -1,4 +1,5 @@
--- What each change comes to at the models of its footprint: its refusals in their order, or its Ok tree and the new contents.
+-- What each change comes to at the models of its footprint: its refusals in their order, or its Ok
+-- tree and the new contents.
 use Rattle.std.specs.Prelude.{ℕ, Bool, false, ◌&&◌, ◌||◌, ◌==◌, nat_le, length, List, [], ◌∷◌, is_none, codes, Result, Ok, Err}
 use Rattle.std.specs.List.{list_all}
 use Rattle.asm_value.specs.State.{StateMap}
@@ -46,7 +47,7 @@ is_identifier (c ∷ cs) = is_letter c && list_all (λ d. is_letter d || is_digi
 abbrev pub most_name_bytes : ℕ
 most_name_bytes = 64
 
--- an identifier of at most so many bytes
+-- an identifier of at most that many bytes
 abbrev pub is_right_name : List ℕ → Bool
 is_right_name name = is_identifier name && nat_le (length name) most_name_bytes
 
@@ -61,7 +62,8 @@ unless_bad (Err bad) = Err (bad_text bad)
 -- a state, or the clash for which nothing was fired
 abbrev pub state_after : Whose → Program → Stepped → Tried StateMap
 state_after whose program (Fired state) = Ok state
-state_after whose program (Clashes location first second) = Err (clash_shown whose program location first second)
+state_after whose program (Clashes location first second) =
+    Err (clash_shown whose program location first second)
 
 abbrev pub with_state : Program → StateMap → Contents
 with_state program state = record { program = program; state = state }
@@ -78,7 +80,8 @@ module _ (m : Meanings) where
   -- ---- changes
 
   abbrev pub not_taken : Models → List ℕ → Tried (Unit {0})
-  not_taken models name = needs (is_none (slot_in models name)) (name_taken name (version_in models name))
+  not_taken models name =
+      needs (is_none (slot_in models name)) (name_taken name (version_in models name))
 
   -- a new model, in its initial state
   abbrev pub load : Models → List ℕ → List ℕ → Change
@@ -98,10 +101,8 @@ module _ (m : Meanings) where
       after (stepped (of_model name) slot.content.program slot.content.state) (λ state.
       accepted (out_shown name) (becomes name (with_state slot.content.program state))))
 
-  -- what a change comes to, where the journal has room
+  -- what a change comes to, where the journal has room; a read changes nothing
   abbrev pub change : Models → Call → Change
-  change models (call.Run source steps) = accepted (text []) []
   change models (call.Load name source) = load models name source
   change models (call.Step formula) = step_model models formula
-  change models (call.State name) = accepted (text []) []
-  change models call.Models = accepted (text []) []
+  change models _ = accepted (text []) []

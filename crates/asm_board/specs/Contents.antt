@@ -1,4 +1,5 @@
--- Contents: what a model is at one version, and how it steps (Börger and Stärk, Abstract State Machines, section 2.4).
+-- Contents: what a model is at one version, and how it steps (Börger and Stärk, Abstract State
+-- Machines, section 2.4).
 use Rattle.std.specs.Prelude.{List, [], ◌∷◌, Option, Some, None, if◌then◌else◌}
 use Rattle.std.specs.Ordering.{eq_by_cmp}
 use Rattle.std.specs.FinMap as map
@@ -36,7 +37,8 @@ pub data Stepped : Type 0 where
 unfoldable pub first_clash : List Update → Option (Update × Update)
 first_clash [] = None
 first_clash (u ∷ []) = None
-first_clash (u ∷ v ∷ us) = if eq_by_cmp location_cmp u.location v.location then Some (u, v) else first_clash (v ∷ us)
+first_clash (u ∷ v ∷ us) =
+    if eq_by_cmp location_cmp u.location v.location then Some (u, v) else first_clash (v ∷ us)
 
 abbrev pub stepped_by : StateMap → UpdateSet → Option (Update × Update) → Stepped
 stepped_by state updates None = Fired (fire state updates)

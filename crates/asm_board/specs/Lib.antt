@@ -10,3 +10,6 @@ pub mod Reads
 pub mod Boards
 pub mod Answers
 pub mod Ends
+pub mod Numbers
+pub mod Journals
+pub mod Steps

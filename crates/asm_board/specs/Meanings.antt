@@ -7,7 +7,7 @@ use Rattle.asm_program.specs.declared.bad_text.BadText.{BadText}
 
 -- the meanings of texts and of rules
 pub record Meanings : Type 0 where
-  -- the program of a text, or what is told of it
+  -- the program of a text, or what is reported of it
   pub program_of : List ℕ → Result Program BadText
   -- the updates that the main rule yields in a state
   pub yields : Program → StateMap → UpdateSet

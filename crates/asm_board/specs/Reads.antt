@@ -14,12 +14,14 @@ use Rattle.asm_board.specs.Shown.{run_shown, state_shown, models_shown}
 use Rattle.asm_board.specs.Changes.{program_in, stepped, found}
 
 module _ (m : Meanings) where
-  -- so many steps, of which this is the number of the first
+  -- this many steps, of which the first has this number
   abbrev pub steps_from : Program → ℕ → ℕ → StateMap → Tried StateMap
   steps_from program zero number state = Ok state
-  steps_from program (suc left) number state = after (stepped m (of_run number) program state) (λ next. steps_from program left (number + 1) next)
+  steps_from program (suc left) number state =
+      after (stepped m (of_run number) program state)
+      (λ next. steps_from program left (number + 1) next)
 
-  -- so many steps of a text that isn't kept, from the state in which every function is undefined
+  -- this many steps of a text that isn't kept, from the state in which every function is undefined
   abbrev pub run : List ℕ → ℕ → Tried Port
   run source steps =
       after (program_in m source) (λ program.
@@ -32,7 +34,6 @@ module _ (m : Meanings) where
   -- what a read shows
   abbrev pub read : Models → Call → Tried Port
   read models (call.Run source steps) = run source steps
-  read models (call.Load name source) = Ok (fields [])
-  read models (call.Step formula) = Ok (fields [])
   read models (call.State name) = state models name
   read models call.Models = Ok (models_shown models)
+  read models _ = Ok (fields [])

@@ -5,75 +5,77 @@ use Rattle.asm_portable.specs.declared.port.Port.{Port}
 use Rattle.asm_portable.specs.declared.port.Field.{Field}
 use Rattle.asm_portable.specs.Ports.{text, number, list, field, fields}
 use Rattle.asm_board.specs.declared.refusal.Refusal.{Refusal}
-use Rattle.asm_board.specs.declared.refusal.Refusal.TheVariants as no
+use Rattle.asm_board.specs.declared.refusal.RefusalName.{RefusalName}
+use Rattle.asm_board.specs.declared.refusal.RefusalName.TheVariants as no
 
 -- ---- names and reasons
 
+abbrev pub name_text : RefusalName → List ℕ
+name_text no.Unbuilt = codes "Unbuilt"
+name_text no.LineTooLong = codes "LineTooLong"
+name_text no.BadJson = codes "BadJson"
+name_text no.BadRequest = codes "BadRequest"
+name_text no.BadName = codes "BadName"
+name_text no.NameTaken = codes "NameTaken"
+name_text no.ModelsFull = codes "ModelsFull"
+name_text no.BadText = codes "BadText"
+name_text no.UnknownModel = codes "UnknownModel"
+name_text no.Clash = codes "Clash"
+name_text no.JournalFull = codes "JournalFull"
+
 abbrev pub name_of : Refusal → List ℕ
-name_of (no.Unbuilt why) = codes "Unbuilt"
-name_of (no.LineTooLong why) = codes "LineTooLong"
-name_of (no.BadJson why) = codes "BadJson"
-name_of (no.BadRequest why) = codes "BadRequest"
-name_of (no.BadName why) = codes "BadName"
-name_of (no.NameTaken why) = codes "NameTaken"
-name_of (no.ModelsFull why) = codes "ModelsFull"
-name_of (no.BadText why) = codes "BadText"
-name_of (no.UnknownModel why) = codes "UnknownModel"
-name_of (no.Clash why) = codes "Clash"
-name_of (no.JournalFull why) = codes "JournalFull"
+name_of refusal = name_text refusal.name
 
 abbrev pub why_of : Refusal → Port
-why_of (no.Unbuilt why) = why
-why_of (no.LineTooLong why) = why
-why_of (no.BadJson why) = why
-why_of (no.BadRequest why) = why
-why_of (no.BadName why) = why
-why_of (no.NameTaken why) = why
-why_of (no.ModelsFull why) = why
-why_of (no.BadText why) = why
-why_of (no.UnknownModel why) = why
-why_of (no.Clash why) = why
-why_of (no.JournalFull why) = why
+why_of refusal = refusal.why
+
+-- a refusal of this name, with these fields
+abbrev pub refusal : RefusalName → List Field → Refusal
+refusal name why = record { name = name; why = fields why }
 
 -- the line asks for something that isn't built
 abbrev pub unbuilt : Refusal
-unbuilt = no.Unbuilt (fields [])
+unbuilt = refusal no.Unbuilt []
 
 -- the line has more bytes than this
 abbrev pub line_too_long : ℕ → Refusal
-line_too_long limit = no.LineTooLong (fields (field (codes "limit") (number limit) ∷ []))
+line_too_long limit = refusal no.LineTooLong (field (codes "limit") (number limit) ∷ [])
 
 -- the line isn't JSON
 abbrev pub bad_json : Refusal
-bad_json = no.BadJson (fields [])
+bad_json = refusal no.BadJson []
 
 -- the first field that is missing or unfit, or the least that no such request has
 abbrev pub bad_request : List ℕ → Refusal
-bad_request key = no.BadRequest (fields (field (codes "field") (text key) ∷ []))
+bad_request key = refusal no.BadRequest (field (codes "field") (text key) ∷ [])
 
 -- the name is no identifier of 1 to 64 bytes
 abbrev pub bad_name : Refusal
-bad_name = no.BadName (fields [])
+bad_name = refusal no.BadName []
 
 abbrev pub model_is : List ℕ → Field
 model_is name = field (codes "model") (text name)
 
 -- the model exists, at this version
 abbrev pub name_taken : List ℕ → ℕ → Refusal
-name_taken name version = no.NameTaken (fields (model_is name ∷ field (codes "version") (number version) ∷ []))
+name_taken name version =
+    refusal no.NameTaken (model_is name ∷ field (codes "version") (number version) ∷ [])
 
--- so many models exist
+-- as many models exist as may
 abbrev pub models_full : ℕ → Refusal
-models_full limit = no.ModelsFull (fields (field (codes "limit") (number limit) ∷ []))
+models_full limit = refusal no.ModelsFull (field (codes "limit") (number limit) ∷ [])
 
 -- the text has no program: its first refusal
 abbrev pub bad_text : BadText → Refusal
-bad_text bad = no.BadText (fields
-    (field (codes "column") (number bad.column) ∷ field (codes "kind") (text bad.kind) ∷ field (codes "line") (number bad.line) ∷ field (codes "more") (text bad.more) ∷ []))
+bad_text bad = refusal no.BadText
+    (field (codes "column") (number bad.column)
+    ∷ field (codes "kind") (text bad.kind)
+    ∷ field (codes "line") (number bad.line)
+    ∷ field (codes "more") (text bad.more) ∷ [])
 
 -- no such model exists
 abbrev pub unknown_model : List ℕ → Refusal
-unknown_model name = no.UnknownModel (fields (model_is name ∷ []))
+unknown_model name = refusal no.UnknownModel (model_is name ∷ [])
 
 -- The model that a refusal names. In a run it has no name, and the number of the step is told.
 pub record Whose : Type 0 where
@@ -88,12 +90,16 @@ of_run step = record { name = []; step = field (codes "step") (number step) ∷ 
 
 -- the step's set gives this location two values
 abbrev pub clash_at : Whose → List Port → List ℕ → List Port → Refusal
-clash_at whose args function values = no.Clash (fields
-    (field (codes "args") (list args) ∷ field (codes "function") (text function) ∷ model_is whose.name ∷ whose.step ++ field (codes "values") (list values) ∷ []))
+clash_at whose args function values = refusal no.Clash
+    (field (codes "args") (list args)
+    ∷ field (codes "function") (text function)
+    ∷ model_is whose.name
+    ∷ whose.step ++ field (codes "values") (list values) ∷ [])
 
 -- the journal's weight and what the entry adds exceed its room
 abbrev pub journal_full : ℕ → ℕ → Refusal
-journal_full adds weight = no.JournalFull (fields (field (codes "adds") (number adds) ∷ field (codes "weight") (number weight) ∷ []))
+journal_full adds weight = refusal no.JournalFull
+    (field (codes "adds") (number adds) ∷ field (codes "weight") (number weight) ∷ [])
 
 -- ---- the first of several
 

@@ -1,9 +1,7 @@
--- The models of a board by their names, and how a change puts new ones in their place.
+-- The models of a board by their names, and how a change puts new ones there.
 use Rattle.std.specs.Prelude.{ℕ, Option, Some, None, List, [], ◌∷◌, ◌++◌, map, if◌then◌else◌}
 use Rattle.std.specs.Str.{bytes_eq}
-use Rattle.std.specs.Ordering.{nat_cmp}
-use Rattle.std.specs.Cmp.Lexicographic.{slice_cmp}
-use Rattle.std.specs.declared.cmp.Ordering.TheVariants.{Less, Equal, Greater}
+use Rattle.asm_portable.specs.Ascending.{put_by, AscendsBy}
 use Rattle.asm_board.specs.declared.board.Slot.{Slot}
 use Rattle.asm_board.specs.declared.board.NamedSlot.{NamedSlot}
 use Rattle.asm_board.specs.declared.prepared.NameVersion.{NameVersion}
@@ -42,7 +40,8 @@ only models (name ∷ names) = listed name (slot_in models name) ++ only models 
 -- each name with its version
 abbrev pub versions_in : Models → List (List ℕ) → List NameVersion
 versions_in models [] = []
-versions_in models (name ∷ names) = record { name = name; version = version_in models name } ∷ versions_in models names
+versions_in models (name ∷ names) =
+    record { name = name; version = version_in models name } ∷ versions_in models names
 
 -- ---- changes of models
 
@@ -59,10 +58,13 @@ new_slot content = record { version = 0; content = content }
 abbrev pub new_slots : List News → List Changed
 new_slots news = map (λ n. record { name = n.name; slot = new_slot n.content }) news
 
--- a model in its place among models that ascend by name
+-- a slot under its name among models that ascend by name, in place of one that is there
 abbrev pub put : List ℕ → Slot → Models → Models
-put name slot [] = named name slot ∷ []
-put name slot (m ∷ ms) = elim (slice_cmp nat_cmp name m.name) as (λ _. Models) [ Less ↦ named name slot ∷ m ∷ ms | Equal ↦ named name slot ∷ ms | Greater ↦ m ∷ put name slot ms ]
+put name slot models = put_by (λ m. m.name) (named name slot) models
+
+-- each name is below those after it, so each is there once
+abbrev pub AscendByName : Models → Type 0
+AscendByName models = AscendsBy (λ m. m.name) models
 
 abbrev pub at_version : ℕ → Slot → Slot
 at_version version slot = record { version = version; content = slot.content }

@@ -68,12 +68,13 @@ fn copies(alloc: Global, models: &[NamedSlot]) -> Result<Vec<NamedSlot>, AllocEr
     Ok(copies)
 }
 
-/// Where a name stands, or has its place, among models that ascend by name.
-fn place_of(models: &[NamedSlot], name: &Text) -> (usize, bool)
+/// Where a name is, or belongs, among models that ascend by name.
+fn position_of(models: &[NamedSlot], name: &Text) -> (usize, bool)
     ensures within { result.0 ≤ length models.now }
-    ensures stands { IsTrue result.1 → result.0 < length models.now }
-    ensures at { (slot : Slots) → put name.now slot models.now
-        ≡ (if result.1 then slice_set models.now result.0 (named name.now slot) else insert models.now result.0 (named name.now slot)) }
+    ensures there { IsTrue result.1 → result.0 < length models.now }
+    ensures at { (slot : Slots) → put name.now slot models.now ≡ (
+        if result.1 then slice_set models.now result.0 (named name.now slot)
+        else insert models.now result.0 (named name.now slot)) }
 {
     for (at, model) in models.iter().enumerate() {
         match name.cmp(&model.name) {
@@ -89,9 +90,9 @@ fn place_of(models: &[NamedSlot], name: &Text) -> (usize, bool)
 fn put(models: &mut Vec<NamedSlot>, name: Text, slot: Slot) -> Result<(), AllocError>
     ensures { OnOk result (models.new.items ≡ put name slot models.old.items) }
 {
-    let (at, stands) = place_of(models.as_slice(), &name);
+    let (at, there) = position_of(models.as_slice(), &name);
     let model = NamedSlot { name, slot };
-    if stands {
+    if there {
         models[at] = model;
     } else {
         models.insert(at, model)?;
@@ -155,8 +156,8 @@ impl Board {
     }
 
     /// The board with one more entry of this weight, which changed these models. What stayed is
-    /// shared with this board. `AllocError` is want of memory; it is answered too where the board has
-    /// 2^64 - 1 entries, a journal for which no memory is enough.
+    /// shared with this board. `AllocError` is want of memory; it is answered too where the board
+    /// has 2^64 - 1 entries, a journal for which no memory is enough.
     pub fn with_entry(
         &self,
         alloc: Global,

@@ -9,7 +9,7 @@ use std::alloc::{AllocError, Global};
 /// accepted; a read shows what there is.
 #[derive(Debug, Drop)]
 pub enum Call {
-    /// A read: so many steps of a text that isn't kept.
+    /// A read: some steps of a text that isn't kept.
     Run { text: Text, steps: u64 },
     /// A change: a new model of a text, in its initial state.
     Load { name: Text, text: Text },

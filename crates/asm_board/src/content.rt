@@ -25,7 +25,13 @@ impl Model for Content {
 
     ghost Value = { Contents };
 
-    ghost coded = { Prim.hlevel (codes, domain.the_row.coded, value.the_row.coded, rule.the_row.coded, map.code {R = location_cmp} location.the_row.coded value.the_row.coded) };
+    ghost coded = { Prim.hlevel (
+      codes,
+      domain.the_row.coded,
+      value.the_row.coded,
+      rule.the_row.coded,
+      map.code {R = location_cmp} location.the_row.coded value.the_row.coded,
+    ) };
 
     ghost view = { λ c. record { program = c.program; state = c.state } };
 }

@@ -7,7 +7,7 @@ use crate::reply::Body;
 pub struct Entry {
     /// Whose call it was, from 0.
     pub seat: u32,
-    /// Its place in the journal, from 1. It is the version of each model that it changed.
+    /// Its number in the journal, from 1. It is the version of each model that it changed.
     pub number: u64,
     pub call: Call,
     /// What was answered.

@@ -1,27 +1,35 @@
-//! Boards, calls and their answers: what each request means, as definitions, and how what was
-//! prepared is settled. It evaluates no text and no rule.
+//! Boards, calls and their answers: what each request means, as definitions with their laws, and
+//! how what was prepared is settled. It evaluates no text and no rule.
 #![tactic(auto)]
 
 mod board;
 mod call;
 mod content;
 mod entry;
+mod laws;
 mod names;
 mod outcome;
 mod prepared;
 mod refusal;
 mod reply;
 mod shared;
-#[cfg(test)]
-mod tests;
 
 pub use board::{Board, NamedSlot, Slot};
 pub use call::Call;
 pub use content::Content;
 pub use entry::Entry;
+pub use laws::{
+    a_change_leaves_other_models_as_they_were, a_first_clash_is_a_clash, a_journal_grows_legally,
+    a_journal_weighs_what_its_entries_do, a_refused_change_makes_no_entry,
+    a_state_shows_its_defined_functions, a_step_changes_its_model_alone,
+    an_accepted_step_fires_a_consistent_set,
+    an_answer_has_an_entry_exactly_where_it_is_an_accepted_change, an_answer_tells_its_number,
+    each_entry_is_an_accepted_change, models_ascend_by_name, still_stands,
+    the_first_clash_is_the_clash,
+};
 pub use names::is_identifier;
 pub use outcome::{Next, Outcome};
 pub use prepared::{Changed, NameVersion, Prepared};
-pub use refusal::Refusal;
+pub use refusal::{Refusal, RefusalName};
 pub use reply::{Body, Reply};
 pub use shared::Shared;

@@ -3,7 +3,9 @@ ghost use Rattle.std.specs.Prelude.{ℕ, ◌≡◌, ◌+◌, nat_lt, Some, None,
 ghost use Rattle.asm_board.specs.Boards as spec;
 ghost use Rattle.asm_board.specs.Answers as answers;
 ghost use Rattle.asm_board.specs.Answers.{answer_in, outcome_of};
-ghost use Rattle.asm_board.specs.Ends.{answer_of, LeavesBoard};
+ghost use Rattle.asm_board.specs.Ends.{answer_of, entered_at, LeavesBoard};
+ghost use Rattle.asm_board.specs.declared.board.Board.{Board as Boards};
+ghost use Rattle.asm_board.specs.declared.outcome.End.TheVariants as ends;
 ghost use Rattle.asm_board.specs.Replies.{reply_of};
 ghost use Rattle.asm_board.specs.declared.reply.Body.TheVariants as bodies;
 
@@ -12,6 +14,7 @@ use crate::entry::Entry;
 use crate::prepared::Prepared;
 use crate::refusal::Refusal;
 use crate::reply::{Body, Reply};
+use asm_portable::Port;
 use std::alloc::{AllocError, Global};
 
 /// The most models of a board.
@@ -36,21 +39,20 @@ pub struct Outcome {
 enum End {
     /// What it says is a refusal.
     Told,
-    /// There is no place for its model, or no room for its entry.
-    Refused(Refusal),
-    /// It is an entry with this body, and leaves this board.
-    Entered { body: Body, board: Board },
+    /// Its model is one too many, or its entry has no room.
+    Refused(Reply),
+    /// It is an entry with this tree, and leaves this board.
+    Entered { tree: Port, board: Board },
 }
 
-impl Outcome {
-    /// A refusal at a board. Nothing follows.
-    fn refused(alloc: Global, board: &Board, refusal: Refusal) -> Result<Outcome, AllocError>
-        ensures { IfOk result (λ outcome. outcome ≡ record { reply = reply_of board.now.front (bodies.No refusal); next = None }) }
+impl End {
+    /// A refusal at a board.
+    fn refused(alloc: Global, board: &Board, refusal: Refusal) -> Result<End, AllocError>
+        ensures { IfOk result
+            (λ end. end ≡ ends.Refused (reply_of board.now.front (bodies.No refusal))) }
     {
-        Ok(Outcome {
-            reply: Reply::new(alloc, board.front(), Body::No(refusal))?,
-            next: None,
-        })
+        let reply = Reply::new(alloc, board.front(), Body::No(refusal))?;
+        Ok(End::Refused(reply))
     }
 }
 
@@ -63,7 +65,7 @@ fn is_too_much(room: u64, weight: u64, adds: u64) -> bool
 }
 
 impl Prepared {
-    /// What it says, after so many entries. Nothing follows.
+    /// What it says, after this many entries. Nothing follows.
     fn told(self, at: u64) -> Outcome
         ensures { result ≡ record { reply = answers.told at self.body self.tail; next = None } }
     {
@@ -74,25 +76,35 @@ impl Prepared {
         }
     }
 
-    /// What it says, as the entry of a seat that leaves a board. The entry has a body of its own.
-    fn entered(self, seat: u32, board: Board, kept: Body) -> Outcome
+    /// This refusal of it. Nothing follows.
+    fn refused(self, reply: Reply) -> Outcome
+        ensures { result ≡ record { reply = reply; next = None } }
+    {
+        Outcome { reply, next: None }
+    }
+
+    /// What it says, as the entry of a seat that leaves a board. The entry has a tree of its own.
+    fn entered(self, seat: u32, board: Board, kept: Port) -> Outcome
         ensures { result ≡ record {
           reply = answers.told board.front self.body self.tail;
-          next = Some (record { entry = record { seat = seat; number = board.front; call = self.call; body = kept }; board = board });
+          next = Some (record {
+            entry = entered_at board.front seat self.call kept;
+            board = board;
+          });
         } }
     {
+        let number = board.front;
         let Prepared {
             call,
             body,
             tail,
             ..
         } = self;
-        let number = board.front();
         let entry = Entry {
             seat,
             number,
             call,
-            body: kept,
+            body: Body::Ok(kept),
         };
         Outcome {
             reply: Reply {
@@ -104,14 +116,26 @@ impl Prepared {
         }
     }
 
+    /// The board after its entry, which has a tree of its own.
+    fn enters(&self, alloc: Global, board: &Board, tree: &Port) -> Result<End, AllocError>
+        ensures { IfOk result (λ end. end
+            ≡ ends.Entered tree.now (spec.with_entry board.now self.now.weight self.now.slots)) }
+    {
+        let board = board.with_entry(alloc, self.weight, self.slots.as_slice())?;
+        let tree = tree.copy(alloc)?;
+        Ok(End::Entered { tree, board })
+    }
+
     /// How it ends at a board where its versions still hold.
     fn end(&self, alloc: Global, room: u64, board: &Board) -> Result<End, AllocError>
-        ensures answer { IfOk result (λ end. (seat : ℕ) → answer_of self.now board.now.front seat end ≡ outcome_of room board.now seat self.now) }
-        ensures board { IfOk result (λ end. LeavesBoard (spec.with_entry board.now self.now.weight self.now.slots) end) }
+        ensures answer { IfOk result (λ end. (seat : ℕ) →
+            answer_of self.now board.now.front seat end ≡ outcome_of room board.now seat self.now) }
+        ensures board { IfOk result
+            (λ end. LeavesBoard (spec.with_entry board.now self.now.weight self.now.slots) end) }
     {
         if self.loads && board.count() >= MOST_MODELS {
             let refusal = Refusal::models_full(alloc, u64::from(MOST_MODELS))?;
-            return Ok(End::Refused(refusal));
+            return End::refused(alloc, board, refusal);
         }
         let tree = match &self.body {
             Body::Ok(tree) => tree,
@@ -119,17 +143,28 @@ impl Prepared {
         };
         if is_too_much(room, board.weight(), self.weight) {
             let refusal = Refusal::journal_full(alloc, self.weight, board.weight())?;
-            return Ok(End::Refused(refusal));
+            return End::refused(alloc, board, refusal);
         }
-        let body = Body::Ok(tree.copy(alloc)?);
-        let board = board.with_entry(alloc, self.weight, self.slots.as_slice())?;
-        Ok(End::Entered { body, board })
+        self.enters(alloc, board, tree)
     }
 
-    /// What it comes to at a board where its versions still hold: a refusal where there is no place for
-    /// one more model, or no room for the entry in a journal of this weight at most, or else what it
-    /// says, as an entry of this seat where it is accepted. On `AllocError`, want of memory or a board
-    /// of 2^64 - 1 entries, it is dropped.
+    /// What is answered where it ends so, after this many entries.
+    fn ended(self, seat: u32, at: u64, end: End) -> Outcome
+        ensures answer { answer_in result ≡ answer_of self at seat end }
+        ensures board { (after : Boards) → LeavesBoard after end
+            → IfSome result.next (λ next. next.board ≡ after) }
+    {
+        match end {
+            End::Told => self.told(at),
+            End::Refused(reply) => self.refused(reply),
+            End::Entered { tree, board } => self.entered(seat, board, tree),
+        }
+    }
+
+    /// What it comes to at a board where its versions still hold: a refusal where one more model
+    /// is too many, or the entry has no room in a journal of this weight at most, or else what it
+    /// says, as an entry of this seat where it is accepted. On `AllocError`, want of memory or a
+    /// board of 2^64 - 1 entries, it is dropped.
     pub fn outcome(
         self,
         alloc: Global,
@@ -137,14 +172,12 @@ impl Prepared {
         board: &Board,
         seat: u32,
     ) -> Result<Outcome, AllocError>
-        ensures answer { IfOk result (λ outcome. answer_in outcome ≡ outcome_of room board.now seat self) }
+        ensures answer { IfOk result
+            (λ outcome. answer_in outcome ≡ outcome_of room board.now seat self) }
         ensures board { IfOk result (λ outcome. IfSome outcome.next
             (λ next. next.board ≡ spec.with_entry board.now self.weight self.slots)) }
     {
-        match self.end(alloc, room, board)? {
-            End::Told => Ok(self.told(board.front())),
-            End::Refused(refusal) => Outcome::refused(alloc, board, refusal),
-            End::Entered { body, board } => Ok(self.entered(seat, board, body)),
-        }
+        let end = self.end(alloc, room, board)?;
+        Ok(self.ended(seat, board.front(), end))
     }
 }

@@ -28,7 +28,7 @@ pub struct Prepared {
     /// Each model of which a change speaks, with its version there.
     pub versions: List<NameVersion>,
     pub body: Body,
-    /// The JSON text of its reply after the number and the comma behind it.
+    /// The JSON text of its reply after the number and the comma after it.
     pub tail: Text,
     /// The new slots of an accepted change.
     pub slots: List<Changed>,

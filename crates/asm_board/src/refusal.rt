@@ -1,93 +1,146 @@
 //! Refusals.
-ghost use Rattle.std.specs.Prelude.{◌≡◌, [], ◌∷◌, IfOk};
-ghost use Rattle.asm_portable.specs.Ports.{text, number, field, fields as fields_tree};
+ghost use Rattle.std.specs.Prelude.{◌≡◌, [], ◌∷◌, ◌++◌, IfOk, OnOk};
+ghost use Rattle.asm_portable.specs.Ports.{text, number, field};
 ghost use Rattle.asm_board.specs.Refusals as spec;
+ghost use Rattle.asm_board.specs.Replies.{refusal_fields};
 
-use asm_portable::{Port, push_field};
+use asm_portable::{Field, Port, push_field};
 use asm_program::BadText;
 use asm_value::List;
 use std::alloc::{AllocError, Global};
 
-/// Why a line or a call is refused. Each holds the fields that say where and by what, none where
-/// there is nothing to say.
-#[derive(Debug, Drop)]
-pub enum Refusal {
+/// Why a line or a call is refused, without where and by what.
+#[derive(Clone, Copy, Debug, Drop)]
+pub enum RefusalName {
     /// The line asks for something that isn't built.
-    Unbuilt(Port),
+    Unbuilt,
     /// The line has too many bytes.
-    LineTooLong(Port),
+    LineTooLong,
     /// The line isn't JSON.
-    BadJson(Port),
+    BadJson,
     /// The line is JSON, and no request.
-    BadRequest(Port),
+    BadRequest,
     /// The name is no identifier of 1 to 64 bytes.
-    BadName(Port),
+    BadName,
     /// The model exists.
-    NameTaken(Port),
+    NameTaken,
     /// As many models exist as may.
-    ModelsFull(Port),
+    ModelsFull,
     /// The text has no program.
-    BadText(Port),
+    BadText,
     /// No such model exists.
-    UnknownModel(Port),
+    UnknownModel,
     /// A step's update set gives one location two values.
-    Clash(Port),
+    Clash,
     /// The journal has no room for the entry.
-    JournalFull(Port),
+    JournalFull,
+}
+
+impl RefusalName {
+    /// It in a reply.
+    pub fn text(self) -> &'static str
+        ensures { result.now ≡ spec.name_text self }
+    {
+        match self {
+            RefusalName::Unbuilt => "Unbuilt",
+            RefusalName::LineTooLong => "LineTooLong",
+            RefusalName::BadJson => "BadJson",
+            RefusalName::BadRequest => "BadRequest",
+            RefusalName::BadName => "BadName",
+            RefusalName::NameTaken => "NameTaken",
+            RefusalName::ModelsFull => "ModelsFull",
+            RefusalName::BadText => "BadText",
+            RefusalName::UnknownModel => "UnknownModel",
+            RefusalName::Clash => "Clash",
+            RefusalName::JournalFull => "JournalFull",
+        }
+    }
+}
+
+/// Why a line or a call is refused.
+#[derive(Debug, Drop)]
+pub struct Refusal {
+    pub name: RefusalName,
+    /// The fields that say where and by what, none where there is nothing to say.
+    pub why: Port,
+}
+
+/// Puts a text under a key after the fields.
+fn push_text(
+    alloc: Global,
+    fields: &mut List<Field>,
+    key: &str,
+    value: &str,
+) -> Result<(), AllocError>
+    ensures { OnOk result (fields.new ≡ fields.old ++ field key.now (text value.now) ∷ []) }
+{
+    push_field(alloc, fields, key, Port::from_text(alloc, value)?)
 }
 
 /// One field with a number.
-fn one_number(alloc: Global, key: &str, value: u64) -> Result<Port, AllocError>
-    ensures { IfOk result (λ tree. tree ≡ fields_tree (field key.now (number value) ∷ [])) }
+fn one_number(alloc: Global, key: &str, value: u64) -> Result<List<Field>, AllocError>
+    ensures { IfOk result (λ fields. fields ≡ field key.now (number value) ∷ []) }
 {
     let mut fields = List::new(alloc);
     push_field(alloc, &mut fields, key, Port::from_number(value))?;
-    Ok(Port::Fields(fields))
+    Ok(fields)
 }
 
 /// One field with a text.
-fn one_text(alloc: Global, key: &str, value: &str) -> Result<Port, AllocError>
-    ensures { IfOk result (λ tree. tree ≡ fields_tree (field key.now (text value.now) ∷ [])) }
+fn one_text(alloc: Global, key: &str, value: &str) -> Result<List<Field>, AllocError>
+    ensures { IfOk result (λ fields. fields ≡ field key.now (text value.now) ∷ []) }
 {
     let mut fields = List::new(alloc);
-    push_field(alloc, &mut fields, key, Port::from_text(alloc, value)?)?;
-    Ok(Port::Fields(fields))
+    push_text(alloc, &mut fields, key, value)?;
+    Ok(fields)
 }
 
 impl Refusal {
+    /// The refusal of this name with these fields. Takes no memory.
+    pub fn with_fields(name: RefusalName, fields: List<Field>) -> Refusal
+        ensures { result ≡ spec.refusal name fields }
+    {
+        Refusal {
+            name,
+            why: Port::Fields(fields),
+        }
+    }
+
     /// The refusal of what isn't built.
     pub fn unbuilt(alloc: Global) -> Refusal
         ensures { result ≡ spec.unbuilt }
     {
-        Refusal::Unbuilt(Port::Fields(List::new(alloc)))
+        Refusal::with_fields(RefusalName::Unbuilt, List::new(alloc))
     }
 
     /// The refusal of a line with more bytes than the limit.
     pub fn line_too_long(alloc: Global, limit: u64) -> Result<Refusal, AllocError>
         ensures { IfOk result (λ refusal. refusal ≡ spec.line_too_long limit) }
     {
-        Ok(Refusal::LineTooLong(one_number(alloc, "limit", limit)?))
+        let fields = one_number(alloc, "limit", limit)?;
+        Ok(Refusal::with_fields(RefusalName::LineTooLong, fields))
     }
 
     /// The refusal of a line that isn't JSON.
     pub fn bad_json(alloc: Global) -> Refusal
         ensures { result ≡ spec.bad_json }
     {
-        Refusal::BadJson(Port::Fields(List::new(alloc)))
+        Refusal::with_fields(RefusalName::BadJson, List::new(alloc))
     }
 
     /// The refusal of a request for the field under this key.
     pub fn bad_request(alloc: Global, key: &str) -> Result<Refusal, AllocError>
         ensures { IfOk result (λ refusal. refusal ≡ spec.bad_request key.now) }
     {
-        Ok(Refusal::BadRequest(one_text(alloc, "field", key)?))
+        let fields = one_text(alloc, "field", key)?;
+        Ok(Refusal::with_fields(RefusalName::BadRequest, fields))
     }
 
     /// The refusal of a name that no model may have.
     pub fn bad_name(alloc: Global) -> Refusal
         ensures { result ≡ spec.bad_name }
     {
-        Refusal::BadName(Port::Fields(List::new(alloc)))
+        Refusal::with_fields(RefusalName::BadName, List::new(alloc))
     }
 
     /// The refusal of a name that a model has, which is at this version.
@@ -95,16 +148,17 @@ impl Refusal {
         ensures { IfOk result (λ refusal. refusal ≡ spec.name_taken name.now version) }
     {
         let mut fields = List::new(alloc);
-        push_field(alloc, &mut fields, "model", Port::from_text(alloc, name)?)?;
+        push_text(alloc, &mut fields, "model", name)?;
         push_field(alloc, &mut fields, "version", Port::from_number(version))?;
-        Ok(Refusal::NameTaken(Port::Fields(fields)))
+        Ok(Refusal::with_fields(RefusalName::NameTaken, fields))
     }
 
     /// The refusal of one more model than the limit.
     pub fn models_full(alloc: Global, limit: u64) -> Result<Refusal, AllocError>
         ensures { IfOk result (λ refusal. refusal ≡ spec.models_full limit) }
     {
-        Ok(Refusal::ModelsFull(one_number(alloc, "limit", limit)?))
+        let fields = one_number(alloc, "limit", limit)?;
+        Ok(Refusal::with_fields(RefusalName::ModelsFull, fields))
     }
 
     /// The refusal of a text that has no program.
@@ -114,20 +168,19 @@ impl Refusal {
         let mut fields = List::new(alloc);
         let column = Port::from_number(u64::from(bad.column));
         push_field(alloc, &mut fields, "column", column)?;
-        let kind = Port::from_text(alloc, bad.kind.as_str())?;
-        push_field(alloc, &mut fields, "kind", kind)?;
+        push_text(alloc, &mut fields, "kind", bad.kind.as_str())?;
         let line = Port::from_number(u64::from(bad.line));
         push_field(alloc, &mut fields, "line", line)?;
-        let more = Port::from_text(alloc, bad.more.as_str())?;
-        push_field(alloc, &mut fields, "more", more)?;
-        Ok(Refusal::BadText(Port::Fields(fields)))
+        push_text(alloc, &mut fields, "more", bad.more.as_str())?;
+        Ok(Refusal::with_fields(RefusalName::BadText, fields))
     }
 
     /// The refusal of a name that no model has.
     pub fn unknown_model(alloc: Global, name: &str) -> Result<Refusal, AllocError>
         ensures { IfOk result (λ refusal. refusal ≡ spec.unknown_model name.now) }
     {
-        Ok(Refusal::UnknownModel(one_text(alloc, "model", name)?))
+        let fields = one_text(alloc, "model", name)?;
+        Ok(Refusal::with_fields(RefusalName::UnknownModel, fields))
     }
 
     /// The refusal of an entry that adds more to the journal's weight than there is room for.
@@ -137,44 +190,30 @@ impl Refusal {
         let mut fields = List::new(alloc);
         push_field(alloc, &mut fields, "adds", Port::from_number(adds))?;
         push_field(alloc, &mut fields, "weight", Port::from_number(weight))?;
-        Ok(Refusal::JournalFull(Port::Fields(fields)))
+        Ok(Refusal::with_fields(RefusalName::JournalFull, fields))
     }
 
     /// Its name in a reply.
     pub fn name(&self) -> &'static str
         ensures { result.now ≡ spec.name_of self.now }
     {
-        match self {
-            Refusal::Unbuilt(_) => "Unbuilt",
-            Refusal::LineTooLong(_) => "LineTooLong",
-            Refusal::BadJson(_) => "BadJson",
-            Refusal::BadRequest(_) => "BadRequest",
-            Refusal::BadName(_) => "BadName",
-            Refusal::NameTaken(_) => "NameTaken",
-            Refusal::ModelsFull(_) => "ModelsFull",
-            Refusal::BadText(_) => "BadText",
-            Refusal::UnknownModel(_) => "UnknownModel",
-            Refusal::Clash(_) => "Clash",
-            Refusal::JournalFull(_) => "JournalFull",
-        }
+        self.name.text()
     }
 
     /// The fields that it holds.
     pub fn why(&self) -> &Port
         ensures { result.now ≡ spec.why_of self.now }
     {
-        match self {
-            Refusal::Unbuilt(why) => why,
-            Refusal::LineTooLong(why) => why,
-            Refusal::BadJson(why) => why,
-            Refusal::BadRequest(why) => why,
-            Refusal::BadName(why) => why,
-            Refusal::NameTaken(why) => why,
-            Refusal::ModelsFull(why) => why,
-            Refusal::BadText(why) => why,
-            Refusal::UnknownModel(why) => why,
-            Refusal::Clash(why) => why,
-            Refusal::JournalFull(why) => why,
-        }
+        &self.why
+    }
+
+    /// The fields of the reply that tells it, besides the number.
+    pub(crate) fn fields(&self, alloc: Global) -> Result<List<Field>, AllocError>
+        ensures { IfOk result (λ fields. fields ≡ refusal_fields self.now) }
+    {
+        let mut fields = List::new(alloc);
+        push_text(alloc, &mut fields, "no", self.name())?;
+        push_field(alloc, &mut fields, "why", self.why.copy(alloc)?)?;
+        Ok(fields)
     }
 }

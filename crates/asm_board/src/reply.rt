@@ -1,7 +1,7 @@
 //! Answers, and their text.
-ghost use Rattle.std.specs.Prelude.{◌≡◌, ℕ, List, ◌∷◌, drop, IfOk};
+ghost use Rattle.std.specs.Prelude.{◌≡◌, ℕ, List, [], ◌∷◌, codes, drop, IfOk};
 ghost use Rattle.asm_portable.specs.Json.{json_text};
-ghost use Rattle.asm_portable.specs.Ports.{fields as fields_tree};
+ghost use Rattle.asm_portable.specs.Ports.{field, fields as fields_tree};
 ghost use Rattle.asm_board.specs.Replies.{body_fields, reply_of, tail_of};
 
 use crate::refusal::Refusal;
@@ -17,7 +17,7 @@ pub enum Body {
 }
 
 /// A reply: the number of entries after which it is given, what it says, and its JSON text after
-/// that number and the comma behind it.
+/// that number and the comma after it.
 #[derive(Debug, Drop)]
 pub struct Reply {
     pub at: u64,
@@ -25,7 +25,7 @@ pub struct Reply {
     pub tail: Text,
 }
 
-/// The text behind its first brace, where it begins with one.
+/// The text after its first brace, where it begins with one.
 fn behind_brace(text: &str) -> &str
     ensures { (rest : List ℕ) → text.now ≡ 123 ∷ rest → result.now ≡ rest }
 {
@@ -35,7 +35,7 @@ fn behind_brace(text: &str) -> &str
     }
 }
 
-/// The JSON text of the fields behind its first brace.
+/// The JSON text of the fields after its first brace.
 fn text_behind(alloc: Global, fields: List<Field>) -> Result<Text, AllocError>
     ensures { IfOk result (λ tail. tail ≡ drop 1 (json_text (fields_tree fields))) }
 {
@@ -43,24 +43,27 @@ fn text_behind(alloc: Global, fields: List<Field>) -> Result<Text, AllocError>
     Text::from_str(alloc, behind_brace(text.as_str()))
 }
 
+/// The fields of the reply that tells this tree, besides the number.
+fn ok_fields(alloc: Global, tree: &Port) -> Result<List<Field>, AllocError>
+    ensures { IfOk result (λ fields. fields ≡ field (codes "ok") tree.now ∷ []) }
+{
+    let mut fields = List::new(alloc);
+    push_field(alloc, &mut fields, "ok", tree.copy(alloc)?)?;
+    Ok(fields)
+}
+
 impl Body {
     /// The fields of its reply besides the number.
     fn fields(&self, alloc: Global) -> Result<List<Field>, AllocError>
         ensures { IfOk result (λ fields. fields ≡ body_fields self.now) }
     {
-        let mut fields = List::new(alloc);
         match self {
-            Body::Ok(tree) => push_field(alloc, &mut fields, "ok", tree.copy(alloc)?)?,
-            Body::No(refusal) => {
-                let name = Port::from_text(alloc, refusal.name())?;
-                push_field(alloc, &mut fields, "no", name)?;
-                push_field(alloc, &mut fields, "why", refusal.why().copy(alloc)?)?;
-            }
+            Body::Ok(tree) => ok_fields(alloc, tree),
+            Body::No(refusal) => refusal.fields(alloc),
         }
-        Ok(fields)
     }
 
-    /// The JSON text of its reply after the number and the comma behind it.
+    /// The JSON text of its reply after the number and the comma after it.
     pub fn tail(&self, alloc: Global) -> Result<Text, AllocError>
         ensures { IfOk result (λ tail. tail ≡ tail_of self.now) }
     {
@@ -69,7 +72,7 @@ impl Body {
 }
 
 impl Reply {
-    /// The reply that tells a body after so many entries.
+    /// The reply that tells a body after this many entries.
     pub fn new(alloc: Global, at: u64, body: Body) -> Result<Reply, AllocError>
         ensures { IfOk result (λ reply. reply ≡ reply_of at body) }
     {

@@ -1,5 +1,5 @@
 use Rattle.std.proofs.Common.{◌≡◌, ℕ, List, drop, IfOk, sym, ap, subst, ◌∙◌}
-use Rattle.asm_portable.specs.JsonLaws.{json_text-Fields}
+use Rattle.asm_portable.proofs.JsonLaws.{json_text-Fields}
 use Rattle.asm_board.proofs.reply.text_behind.Goals as goal
 
 pub returns : goal.returns

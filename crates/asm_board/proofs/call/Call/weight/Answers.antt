@@ -1,5 +1,5 @@
 use Rattle.std.proofs.Common.{rules, arith}
-use Rattle.asm_portable.specs.WeightLaws.{weight_steps}
+use Rattle.asm_portable.proofs.WeightLaws.{weight_steps}
 use Rattle.asm_board.proofs.call.Call.weight.Goals as goal
 
 pub returns-in-Run : goal.returns-in-Run

@@ -1,8 +1,0 @@
-use Rattle.std.proofs.Common.{◌≡◌, ◌++◌, take, drop}
-use Rattle.asm_board.specs.declared.board.Slot.{Slot}
-use Rattle.asm_board.specs.Slots.{put}
-use Rattle.asm_board.proofs.board.place_of.Given as goal
-
--- the name comes behind each model so far
-abbrev pub invariant-loop-at : goal.invariant-loop-at
-invariant-loop-at l = (slot : Slot) → put l.name slot l.models ≡ take l.at l.models ++ put l.name slot (drop l.at l.models)

@@ -1,0 +1,165 @@
+//! Laws of journals, steps and models, over the definitions alone: each function does nothing.
+ghost use Rattle.std.specs.Prelude.{ℕ, ◌≡◌, ◌≤◌, ◌↔◌, List, ◌++◌, map, length, option_to_list, Some, None, Ok, Err, All, IsSome};
+ghost use Rattle.std.specs.List.{Contains};
+ghost use Rattle.asm_value.specs.declared.value.Value.{Value};
+ghost use Rattle.asm_value.specs.declared.location.Location.{Location};
+ghost use Rattle.asm_value.specs.declared.location.Update.{Update};
+ghost use Rattle.asm_value.specs.UpdateSet.{UpdateSet, items};
+ghost use Rattle.asm_value.specs.State.{StateMap, IsConsistent, IsClash};
+ghost use Rattle.asm_program.specs.declared.program.Program.{Program};
+ghost use Rattle.asm_portable.specs.declared.port.Field.{Field};
+ghost use Rattle.asm_portable.specs.Ports.{AscendByKey};
+ghost use Rattle.asm_board.specs.declared.board.Board.{Board};
+ghost use Rattle.asm_board.specs.declared.call.Call.{Call};
+ghost use Rattle.asm_board.specs.declared.call.Call.TheVariants.{Step, Models as ListModels};
+ghost use Rattle.asm_board.specs.declared.entry.Entry.{Entry};
+ghost use Rattle.asm_board.specs.declared.refusal.Refusal.{Refusal};
+ghost use Rattle.asm_board.specs.declared.reply.Body.TheVariants as bodies;
+ghost use Rattle.asm_board.specs.Meanings.{Meanings};
+ghost use Rattle.asm_board.specs.Contents.{first_clash};
+ghost use Rattle.asm_board.specs.Calls.{footprint};
+ghost use Rattle.asm_board.specs.Slots.{Models, AscendByName, slot_in};
+ghost use Rattle.asm_board.specs.Changes.{Accepted, change};
+ghost use Rattle.asm_board.specs.Boards.{applied, board_of, change_at};
+ghost use Rattle.asm_board.specs.Answers.{Legal, answer, answer_at};
+ghost use Rattle.asm_board.specs.Shown.{functions_listed, models_shown, IsDefinedFunction, NamesDiffer};
+ghost use Rattle.asm_board.specs.Numbers.{TellsItsNumber};
+ghost use Rattle.asm_board.specs.Journals.{IsAcceptedChange, PreparedStillStands, entries_weight};
+ghost use Rattle.asm_board.specs.Steps.{FiresItsSet, StepsAlone};
+
+// ---- journals
+
+/// A reply tells the number of entries after which it is given, its own among them. Its entry is of
+/// its seat and its call, and holds what it says.
+pub fn an_answer_tells_its_number(room: u64)
+    ensures { (m : Meanings) (journal : List Entry) (seat : ℕ) (call : Call) →
+        TellsItsNumber (length journal) seat call (answer m room journal seat call) }
+{
+    let _ = room;
+}
+
+/// An answer has an entry exactly where its call may change the models and its body is no refusal,
+/// be it since the models or the journal are full.
+pub fn an_answer_has_an_entry_exactly_where_it_is_an_accepted_change(room: u64)
+    ensures { (m : Meanings) (journal : List Entry) (seat : ℕ) (call : Call) →
+        IsSome (answer m room journal seat call).entry
+        ↔ IsAcceptedChange call (answer m room journal seat call).reply.body }
+{
+    let _ = room;
+}
+
+/// A legal journal stays legal with the entry of the answer to any call.
+pub fn a_journal_grows_legally(room: u64)
+    ensures { (m : Meanings) (journal : List Entry) (seat : ℕ) (call : Call) →
+        Legal m room journal →
+        Legal m room (journal ++ option_to_list (answer m room journal seat call).entry) }
+{
+    let _ = room;
+}
+
+/// Each entry of a legal journal is an accepted change: its call may change the models, and its
+/// body is no refusal.
+pub fn each_entry_is_an_accepted_change(room: u64)
+    ensures { (m : Meanings) (journal : List Entry) → Legal m room journal →
+        All (λ entry. IsAcceptedChange entry.call entry.body) journal }
+{
+    let _ = room;
+}
+
+/// The board of a legal journal has the weight of its entries together, which never exceeds the
+/// room.
+pub fn a_journal_weighs_what_its_entries_do(room: u64)
+    ensures sum { (m : Meanings) (journal : List Entry) → Legal m room journal →
+        (board_of m journal).weight ≡ entries_weight journal }
+    ensures within { (m : Meanings) (journal : List Entry) → Legal m room journal →
+        entries_weight journal ≤ room }
+{
+    let _ = room;
+}
+
+/// A prepared change whose versions are still the same stands at the later board too, and is
+/// settled as the one-thread server answers.
+pub fn still_stands(room: u64)
+    ensures { PreparedStillStands room }
+{
+    let _ = room;
+}
+
+// ---- models
+
+/// An entry of any call leaves each model outside its footprint as it was, version and content.
+pub fn a_change_leaves_other_models_as_they_were()
+    ensures { (m : Meanings) (board : Board) (entry : Entry) (name : List ℕ) →
+        (Contains (footprint entry.call) name → ⊥) →
+        slot_in (applied m board entry).slots name ≡ slot_in board.slots name }
+{}
+
+/// The models that a journal leaves ascend by name, each once, and the call that asks for the
+/// models is answered by them in that order, each with its version.
+pub fn models_ascend_by_name(room: u64)
+    ensures ascend { (m : Meanings) (journal : List Entry) →
+        AscendByName (board_of m journal).slots }
+    ensures shown { (m : Meanings) (journal : List Entry) (seat : ℕ) →
+        (answer m room journal seat ListModels).reply.body
+        ≡ bodies.Ok (models_shown (board_of m journal).slots) }
+{
+    let _ = room;
+}
+
+/// The functions that are shown of a state ascend by name, each once. Each is one that is defined,
+/// with its value; and where the program's names differ, each that is defined is shown.
+pub fn a_state_shows_its_defined_functions()
+    ensures ascend { (program : Program) (state : StateMap) →
+        AscendByKey (functions_listed program state) }
+    ensures defined { (program : Program) (state : StateMap) (shown : Field) →
+        Contains (functions_listed program state) shown → IsDefinedFunction program state shown }
+    ensures all { (program : Program) (state : StateMap) (shown : Field) → NamesDiffer program →
+        IsDefinedFunction program state shown → Contains (functions_listed program state) shown }
+{}
+
+// ---- steps
+
+/// A step that is accepted fires the consistent set that its model's main rule yields.
+pub fn an_accepted_step_fires_a_consistent_set()
+    ensures { (m : Meanings) (models : Models) (name : List ℕ) (step : Accepted) →
+        change m models (Step name) ≡ Ok step → FiresItsSet m models name step }
+{}
+
+/// A change that is refused makes no entry, so the board stays as it is.
+pub fn a_refused_change_makes_no_entry(room: u64)
+    ensures { (m : Meanings) (board : Board) (seat : ℕ) (call : Call) (why : Refusal) →
+        change_at m board call ≡ Err why → (answer_at m room board seat call).entry ≡ None }
+{
+    let _ = room;
+}
+
+/// The entry of a step leaves its model with a consistent set fired, and each other model as it
+/// was.
+pub fn a_step_changes_its_model_alone(room: u64)
+    ensures { (m : Meanings) (board : Board) (seat : ℕ) (name : List ℕ) (entry : Entry) →
+        (answer_at m room board seat (Step name)).entry ≡ Some entry
+        → StepsAlone m board name entry }
+{
+    let _ = room;
+}
+
+// ---- clashes
+
+/// Where no two updates come first, no location has two values. Where two do, they are of one
+/// location, the least with two values, and have its two least values.
+pub fn a_first_clash_is_a_clash()
+    ensures none { (updates : UpdateSet) →
+        first_clash (items updates) ≡ None → IsConsistent updates }
+    ensures some { (updates : UpdateSet) (u v : Update) →
+        first_clash (items updates) ≡ Some (u, v) →
+        (u.location ≡ v.location) × IsClash updates u.location u.value v.value }
+{}
+
+/// The other way round: a consistent set has no first clash, and a set's clash is the first.
+pub fn the_first_clash_is_the_clash()
+    ensures none { (updates : UpdateSet) →
+        IsConsistent updates → first_clash (items updates) ≡ None }
+    ensures some { (updates : UpdateSet) (l : Location) (first second : Value) →
+        IsClash updates l first second → first_clash (items updates)
+        ≡ Some (record { location = l; value = first }, record { location = l; value = second }) }
+{}

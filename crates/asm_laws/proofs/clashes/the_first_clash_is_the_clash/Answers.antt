@@ -1,8 +1,0 @@
-use Rattle.asm_laws.proofs.FirstClash.{IsConsistent-none, IsClash-some}
-use Rattle.asm_laws.proofs.clashes.the_first_clash_is_the_clash.Goals as goal
-
-pub returns-clause-none : goal.returns-clause-none
-returns-clause-none c = IsConsistent-none
-
-pub returns-clause-some : goal.returns-clause-some
-returns-clause-some c = IsClash-some

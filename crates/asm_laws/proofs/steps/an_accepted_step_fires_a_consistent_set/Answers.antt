@@ -1,5 +1,0 @@
-use Rattle.asm_laws.proofs.Firing.{fires_its_set}
-use Rattle.asm_laws.proofs.steps.an_accepted_step_fires_a_consistent_set.Goals as goal
-
-pub returns : goal.returns
-returns c = fires_its_set
