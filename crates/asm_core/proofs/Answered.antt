@@ -17,10 +17,10 @@ use Rattle.asm_board.specs.Boards.{model_limit, body_of_change, body_of_read, we
 use Rattle.asm_board.specs.Reads.{read}
 use Rattle.asm_board.specs.Refusals.{models_full, journal_full}
 use Rattle.asm_board.specs.Answers.{Answer, told, without_entry, entry_at, with_room, outcome, outcome_of, answer_change, answer_at, answer_in, answer, Stands}
-use Rattle.asm_core.specs.Keeps.{Keeps}
+use Rattle.asm_core.specs.Servers.{Keeps, Server}
 use Rattle.asm_core.specs.Language.{asmeta}
-use Rattle.asm_core.specs.Servers.{Server}
-use Rattle.asm_core.proofs.Journals.{board_of-push}
+use Rattle.asm_board.proofs.Entries.{weighs_at, some_weight, made_by, outcome_entry}
+use Rattle.asm_board.proofs.Journals.{board_of-push}
 
 -- ---- the answer is that of what was prepared
 
@@ -36,68 +36,7 @@ change_answered m room seat board c p s is =
     ap (λ (b : Bool). cond b (answer_change m room board seat c) (without_entry board.front (body_at m board c))) is
     ∙ (λ i. outcome room board seat (sym s.is_call i) (sym s.loads i) (sym s.weight i) (sym s.body i) (sym s.tail i))
 
--- ---- an entry
-
--- an accepted change and the room for its entry
-record IsEntry (room seat : ℕ) (board : Board) (c : Call) (weight : ℕ) (body : Body) (e : Entry) : Type 0 where
-  tree : Port
-  is_body : body ≡ bodies.Ok tree
-  is : e ≡ entry_at board seat c (bodies.Ok tree)
-  fits : nat_lt room (board.weight + weight) ≡ false
-
-ok_is : (t u : Port) → bodies.Ok t ≡ bodies.Ok u → t ≡ u
-ok_is t u e = cc
-
-some_is : {A : Type 0} (x y : A) → Some x ≡ Some y → y ≡ x
-some_is x y e = cc
-
-by_room : (room seat : ℕ) (board : Board) (c : Call) (weight : ℕ) (tree : Port) (tail : List ℕ) (e : Entry) (t : Bool) → nat_lt room (board.weight + weight) ≡ t
-    → (if t then without_entry board.front (bodies.No (journal_full weight board.weight))
-    else record { reply = told (board.front + 1) (bodies.Ok tree) tail; entry = Some (entry_at board seat c (bodies.Ok tree)) }).entry ≡ Some e
-    → IsEntry room seat board c weight (bodies.Ok tree) e
-by_room room seat board c weight tree tail e true full is = absurd (cc (is))
-by_room room seat board c weight tree tail e false fits is = record { tree = tree; is_body = refl; is = some_is _ _ is; fits = fits }
-
-with_room_entry : (room seat : ℕ) (board : Board) (c : Call) (weight : ℕ) (body : Body) (tail : List ℕ) (e : Entry)
-    → (with_room room board seat c weight body tail).entry ≡ Some e → IsEntry room seat board c weight body e
-with_room_entry room seat board c weight (bodies.No why) tail e is = absurd (cc (is))
-with_room_entry room seat board c weight (bodies.Ok tree) tail e is = by_room room seat board c weight tree tail e (nat_lt room (board.weight + weight)) refl is
-
-by_place : (room seat : ℕ) (board : Board) (c : Call) (weight : ℕ) (body : Body) (tail : List ℕ) (e : Entry) (t : Bool)
-    → (if t then without_entry board.front (bodies.No (models_full model_limit)) else with_room room board seat c weight body tail).entry ≡ Some e
-    → IsEntry room seat board c weight body e
-by_place room seat board c weight body tail e true is = absurd (cc (is))
-by_place room seat board c weight body tail e false is = with_room_entry room seat board c weight body tail e is
-
-outcome_entry : (room seat : ℕ) (board : Board) (p : Prepared) (e : Entry) → (outcome_of room board seat p).entry ≡ Some e → IsEntry room seat board p.call p.weight p.body e
-outcome_entry room seat board p e is = by_place room seat board p.call p.weight p.body p.tail e (p.loads && nat_le model_limit (length board.slots)) is
-
--- what the body of an accepted change weighs with its call
-weighs : (c : Call) (change : Change) (tree : Port) → body_of_change change ≡ bodies.Ok tree → weight_of_change c change ≡ entry_weight c tree
-weighs c (Ok a) tree is = ap (entry_weight c) (ok_is a.ok tree is)
-weighs c (Err why) tree is = absurd (cc (is))
-
-weighs_at : (m : Meanings) (board : Board) (c : Call) (tree : Port) (t : Bool) → t ≡ true
-    → (if t then body_of_change (change_at m board c) else body_of_read (read m board.slots c)) ≡ bodies.Ok tree
-    → (if t then weight_of_change c (change_at m board c) else 0) ≡ entry_weight c tree
-weighs_at m board c tree true is ok = weighs c (change_at m board c) tree ok
-weighs_at m board c tree false is ok = absurd (cc (is))
-
-some_weight : (c : Call) (tree : Port) → 4 ≤ entry_weight c tree
-some_weight c tree = omega arith
-
 -- ---- what a server keeps after an entry
-
--- the entry is the one that the definitions make of the call
-made_by : (m : Meanings) (room seat : ℕ) (board : Board) (c : Call) (p : Prepared) (e : Entry) → Stands m p c board → is_change c ≡ true
-    → (i : IsEntry room seat board p.call p.weight p.body e) → with_entry board p.weight p.slots ≡ applied m board e
-made_by m room seat board c p e s is i =
-    let call : e.call ≡ c = ap (λ (x : Entry). x.call) i.is ∙ s.is_call in
-    let body : e.body ≡ bodies.Ok i.tree = ap (λ (x : Entry). x.body) i.is in
-    let weight : p.weight ≡ body_weight e.call e.body =
-    s.weight ∙ weighs_at m board c i.tree (is_change c) is (sym s.body ∙ i.is_body) ∙ (λ j. body_weight (sym call j) (sym body j)) in
-    let slots = s.slots ∙ ap (slots_at m board) (sym call) in
-    λ j. with_entry board (weight j) (slots j)
 
 pub keeps_next : (room seat : ℕ) (journal : List Entry) (board next : Board) (c : Call) (p : Prepared) (e : Entry) → Keeps room journal board → Stands asmeta p c board
     → is_change c ≡ true → (outcome_of room board seat p).entry ≡ Some e → next ≡ with_entry board p.weight p.slots → Keeps room (journal ++ e ∷ []) next

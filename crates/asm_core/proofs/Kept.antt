@@ -3,9 +3,9 @@ use Rattle.std.proofs.Common.{◌≡◌, ℕ, ◌≤◌, ◌^◌, List, [], refl
 use Rattle.asm_board.specs.declared.board.Board.{Board}
 use Rattle.asm_board.specs.declared.entry.Entry.{Entry}
 use Rattle.asm_board.specs.Boards.{empty_board}
-use Rattle.asm_core.specs.Keeps.{Keeps}
+use Rattle.asm_core.specs.Servers.{Keeps}
 use Rattle.asm_core.specs.Language.{asmeta}
-use Rattle.asm_core.proofs.Journals.{board_of-nil}
+use Rattle.asm_board.proofs.Journals.{board_of-nil}
 
 pub keeps_new : (room : ℕ) (board : Board) (journal : List Entry) → board ≡ empty_board → journal ≡ [] → room ≤ 2 ^ 23 → Keeps room journal board
 keeps_new room board journal is none small =

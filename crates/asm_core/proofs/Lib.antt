@@ -1,7 +1,6 @@
-pub mod Places
-pub mod Journals
 pub mod Kept
 pub mod Standing
 pub mod Answered
 pub mod Stepping
-pub mod Placed
+pub mod Refused
+pub mod Runs

@@ -16,7 +16,7 @@ use Rattle.asm_board.specs.Changes.{Change, is_right_name, program_in, stepped, 
 use Rattle.asm_board.specs.Reads.{read}
 use Rattle.asm_board.specs.Boards.{body_of_change, body_of_read, slots_of_change, weight_of_change}
 use Rattle.asm_board.specs.Answers.{Stands}
-use Rattle.asm_core.specs.Made.{read_made, change_made}
+use Rattle.asm_core.specs.Preparing.{read_made, change_made}
 
 pub if_ok : {T E : Type 0} (r : Result T E) (P Q : T → Type 0) → IfOk r P → ((x : T) → P x → Q x) → IfOk r Q
 if_ok (Ok x) P Q p f = f x p

@@ -1,8 +1,5 @@
 pub mod Language
+pub mod Preparing
+pub mod Showing
 pub mod Servers
-pub mod Comes
-pub mod Effects
-pub mod Keeps
-pub mod Made
-pub mod Named
-pub mod Whose
+pub mod World

@@ -1,11 +1,11 @@
-//! What is told of a text that has no program.
+//! What is reported of a text that has no program.
 ghost use Rattle.std.specs.Prelude.{◌≡◌, ◌≢◌, ◌≤◌, List, length, IfOk};
 ghost use Rattle.asm_syntax.specs.declared.token.Token.{Token};
 ghost use Rattle.asm_syntax.specs.Texts.{most_bytes};
 ghost use Rattle.asm_lex.specs.Answers.{IsFirst};
-ghost use Rattle.asm_parse.specs.Answers.{IsModelCause, StandsIn};
-ghost use Rattle.asm_texts.specs.Texts as spec;
-ghost use Rattle.asm_texts.specs.Texts.{IsBadText};
+ghost use Rattle.asm_parse.specs.Answers.{IsModelCause, IsWithin};
+ghost use Rattle.asm_meaning.specs.Texts as spec;
+ghost use Rattle.asm_meaning.specs.Texts.{IsBadText};
 
 use asm_lex::LexRefusal;
 use asm_parse::ParseRefusal;
@@ -15,7 +15,7 @@ use asm_value::Text;
 use std::alloc::{AllocError, Global};
 
 /// A refusal at a byte of the text, or at its end.
-fn told_at(
+fn reported_at(
     alloc: Global,
     text: &str,
     at: u32,
@@ -24,7 +24,7 @@ fn told_at(
 ) -> Result<BadText, AllocError>
     requires within { at ≤ length text.now }
     requires most { at ≤ most_bytes }
-    ensures { IfOk result (λ bad. bad ≡ spec.told_at text.now at kind.now more.now) }
+    ensures { IfOk result (λ bad. bad ≡ spec.reported_at text.now at kind.now more.now) }
 {
     let there = place(text, at);
     Ok(BadText {
@@ -35,20 +35,20 @@ fn told_at(
     })
 }
 
-/// The refusal of what isn't run. No place of it is told.
+/// The refusal of what isn't run. It names no place.
 pub(crate) fn unbuilt(alloc: Global, text: &str) -> Result<BadText, AllocError>
-    ensures { IfOk result (λ bad. bad ≡ spec.told_unbuilt text.now) }
+    ensures { IfOk result (λ bad. bad ≡ spec.reported_unbuilt text.now) }
 {
-    told_at(alloc, text, 0, "Unbuilt", "")
+    reported_at(alloc, text, 0, "Unbuilt", "")
 }
 
-/// The refusal of a text of so many bytes.
+/// The refusal of a text with too many bytes.
 fn too_long(alloc: Global, text: &str, bytes: usize) -> Result<BadText, AllocError>
     requires { bytes ≡ length text.now }
-    ensures { IfOk result (λ bad. bad ≡ spec.told_long text.now) }
+    ensures { IfOk result (λ bad. bad ≡ spec.reported_long text.now) }
 {
     let digits = format!(in alloc; "{bytes}")?;
-    told_at(alloc, text, 0, "TextTooLong", digits.as_str())
+    reported_at(alloc, text, 0, "TextTooLong", digits.as_str())
 }
 
 /// The refusal of a text that isn't read to its end as tokens.
@@ -58,10 +58,10 @@ fn unlexed(alloc: Global, text: &str, why: LexRefusal) -> Result<BadText, AllocE
 {
     match why {
         LexRefusal::TextTooLong(bytes) => too_long(alloc, text, bytes),
-        LexRefusal::BadByte(at) => told_at(alloc, text, at, "BadByte", ""),
-        LexRefusal::OpenComment(at) => told_at(alloc, text, at, "OpenComment", ""),
-        LexRefusal::OpenString(at) => told_at(alloc, text, at, "OpenString", ""),
-        LexRefusal::NumberTooLarge(at) => told_at(alloc, text, at, "NumberTooLarge", ""),
+        LexRefusal::BadByte(at) => reported_at(alloc, text, at, "BadByte", ""),
+        LexRefusal::OpenComment(at) => reported_at(alloc, text, at, "OpenComment", ""),
+        LexRefusal::OpenString(at) => reported_at(alloc, text, at, "OpenString", ""),
+        LexRefusal::NumberTooLarge(at) => reported_at(alloc, text, at, "NumberTooLarge", ""),
         LexRefusal::NoMemory => Err(AllocError),
     }
 }
@@ -69,16 +69,16 @@ fn unlexed(alloc: Global, text: &str, why: LexRefusal) -> Result<BadText, AllocE
 /// The refusal of a text that has no tree.
 pub(crate) fn unread(alloc: Global, text: &str, why: &ParseRefusal) -> Result<BadText, AllocError>
     requires cause { why.now ≢ ParseRefusal.NoMemory → IsModelCause text.now why.now }
-    requires placed { StandsIn text.now why.now }
+    requires within { IsWithin text.now why.now }
     ensures { IfOk result (IsBadText text.now) }
 {
     match why {
         ParseRefusal::Lex(why) => unlexed(alloc, text, *why),
-        ParseRefusal::Syntax(at) => told_at(alloc, text, *at, "Syntax", ""),
+        ParseRefusal::Syntax(at) => reported_at(alloc, text, *at, "Syntax", ""),
         ParseRefusal::Unsupported(word, at) => {
-            told_at(alloc, text, *at, "Unsupported", word.as_str())
+            reported_at(alloc, text, *at, "Unsupported", word.as_str())
         }
-        ParseRefusal::TooDeep(at) => told_at(alloc, text, *at, "TooDeep", ""),
+        ParseRefusal::TooDeep(at) => reported_at(alloc, text, *at, "TooDeep", ""),
         ParseRefusal::NoMemory => Err(AllocError),
     }
 }

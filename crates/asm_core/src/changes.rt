@@ -1,7 +1,7 @@
 //! Changes: what they make of the models, were there room for them.
 ghost use Rattle.std.specs.Prelude.{◌≡◌};
 ghost use Rattle.asm_board.specs.Changes as spec;
-ghost use Rattle.asm_core.specs.Comes.{Comes, accepted_of};
+ghost use Rattle.asm_core.specs.Preparing.{Comes, accepted_of};
 ghost use Rattle.asm_core.specs.Language.{asmeta};
 
 use crate::reads::found;
@@ -44,12 +44,13 @@ pub fn load(alloc: Global, board: &Board, name: &Text, text: &str) -> Result<Acc
         let refusal = Refusal::name_taken(alloc, name.as_str(), slot.version)?;
         return Err(Stop::Refused(refusal));
     }
-    let program = program_in(alloc, text)?;
-    let content = Content::new(Shared::new(alloc, program)?, State::new(alloc));
+    let loaded = Text::from_str(alloc, "loaded")?;
+    let name = name.copy(alloc)?;
+    let program = Shared::new(alloc, program_in(alloc, text)?)?;
     Ok(Accepted {
-        ok: Port::from_text(alloc, "loaded")?,
-        name: name.copy(alloc)?,
-        content,
+        ok: Port::Text(loaded),
+        name,
+        content: Content::new(program, State::new(alloc)),
     })
 }
 
@@ -59,11 +60,18 @@ pub fn step_model(alloc: Global, board: &Board, name: &Text) -> Result<Accepted,
 {
     let slot = found(alloc, board, name)?;
     let content = slot.content.get();
-    let program = content.program();
-    let state = stepped(alloc, name.as_str(), None, program.get(), content.state())?;
+    let program = content.program().share()?;
+    let state = stepped(
+        alloc,
+        name.as_str(),
+        None,
+        content.program().get(),
+        content.state(),
+    )?;
+    let content = Content::new(program, state);
     Ok(Accepted {
         ok: out_shown(alloc, name.as_str())?,
         name: name.copy(alloc)?,
-        content: Content::new(program.share()?, state),
+        content,
     })
 }

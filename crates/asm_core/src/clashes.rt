@@ -1,28 +1,28 @@
-//! What a client is told of a clash.
+//! What a client is shown of a clash.
 ghost use Rattle.std.specs.Prelude.{◌≡◌, [], ◌∷◌, ◌++◌, IfOk, OnOk};
 ghost use Rattle.asm_portable.specs.Ports as ports;
 ghost use Rattle.asm_portable.specs.Values.{port_of};
 ghost use Rattle.asm_board.specs.Refusals.{clash_at};
 ghost use Rattle.asm_board.specs.Shown as spec;
-ghost use Rattle.asm_core.specs.Whose.{whose_by, step_fields};
+ghost use Rattle.asm_core.specs.Showing.{whose_by, step_fields};
 
-use asm_board::Refusal;
+use asm_board::{Refusal, RefusalName};
 use asm_portable::{Field, Port, port_of, ports_of, push_field};
 use asm_program::Program;
 use asm_updates::ClashRef;
-use asm_value::{List, Place, Text, Value};
+use asm_value::{List, Subject, Text, Value};
 use std::alloc::{AllocError, Global};
 
-/// The name of the function at a place.
-fn place_name(alloc: Global, program: &Program, place: Place) -> Result<Text, AllocError>
-    ensures { IfOk result (λ name. name ≡ spec.place_name program.now place) }
+/// The name of the function of a location.
+fn subject_name(alloc: Global, program: &Program, subject: Subject) -> Result<Text, AllocError>
+    ensures { IfOk result (λ name. name ≡ spec.subject_name program.now subject) }
 {
-    match place {
-        Place::Function(function) => match program.functions.as_slice().get(usize::from(function)) {
+    match subject {
+        Subject::Function(number) => match program.functions.as_slice().get(usize::from(number)) {
             Some(info) => info.name.copy(alloc),
             None => Ok(Text::new(alloc)),
         },
-        Place::Domain(_) => Ok(Text::new(alloc)),
+        Subject::Domain(_) => Ok(Text::new(alloc)),
     }
 }
 
@@ -36,7 +36,7 @@ fn both_shown(alloc: Global, first: &Value, second: &Value) -> Result<List<Port>
     Ok(List::from_vec(vec![in alloc; first, second]?))
 }
 
-/// Puts the number of a run's step behind the fields, if there is one.
+/// Puts the number of a run's step after the fields, if there is one.
 fn push_step(alloc: Global, fields: &mut List<Field>, step: Option<u64>) -> Result<(), AllocError>
     ensures { OnOk result (fields.new ≡ fields.old ++ step_fields step) }
 {
@@ -55,7 +55,8 @@ fn clash_at(
     function: Text,
     values: List<Port>,
 ) -> Result<Refusal, AllocError>
-    ensures { IfOk result (λ refusal. refusal ≡ clash_at (whose_by name.now step) args function values) }
+    ensures { IfOk result
+        (λ refusal. refusal ≡ clash_at (whose_by name.now step) args function values) }
 {
     let mut fields = List::new(alloc);
     push_field(alloc, &mut fields, "args", Port::List(args))?;
@@ -63,7 +64,7 @@ fn clash_at(
     push_field(alloc, &mut fields, "model", Port::from_text(alloc, name)?)?;
     push_step(alloc, &mut fields, step)?;
     push_field(alloc, &mut fields, "values", Port::List(values))?;
-    Ok(Refusal::Clash(Port::Fields(fields)))
+    Ok(Refusal::with_fields(RefusalName::Clash, fields))
 }
 
 /// The refusal of a clash, with its location and its two values.
@@ -75,10 +76,11 @@ pub fn clash_shown(
     clash: &ClashRef<'_>,
 ) -> Result<Refusal, AllocError>
     ensures { IfOk result (λ refusal. refusal
-        ≡ spec.clash_shown (whose_by name.now step) program.now clash.now.location.now clash.now.first.now clash.now.second.now) }
+        ≡ spec.clash_shown (whose_by name.now step) program.now
+        clash.now.location.now clash.now.first.now clash.now.second.now) }
 {
     let args = ports_of(alloc, &List::new(alloc), clash.location.args.as_slice())?;
-    let function = place_name(alloc, program, clash.location.place)?;
+    let function = subject_name(alloc, program, clash.location.subject)?;
     let values = both_shown(alloc, clash.first, clash.second)?;
     clash_at(alloc, name, step, args, function, values)
 }

@@ -4,15 +4,15 @@
 mod bad_texts;
 mod changes;
 mod clashes;
+mod laws;
 mod one;
 mod preparation;
 mod reads;
 mod shown;
 mod steps;
 mod stop;
-#[cfg(test)]
-mod tests;
 mod texts;
 
+pub use laws::world;
 pub use one::One;
 pub use preparation::prepare;

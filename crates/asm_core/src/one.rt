@@ -25,8 +25,7 @@ impl Model for One {
     ghost use Rattle.std.specs.Prelude.{◌≡◌, ◌≤◌, ◌^◌, length};
     ghost use Rattle.asm_board.specs.Boards.{board_of};
     ghost use Rattle.asm_core.specs.Language.{asmeta};
-    ghost use Rattle.asm_core.specs.Keeps.{Keeps};
-    ghost use Rattle.asm_core.specs.Servers.{Server};
+    ghost use Rattle.asm_core.specs.Servers.{Keeps, Server};
     ghost use Rattle.std.specs.Coded.{codes};
     ghost use Rattle.asm_portable.specs.contracts.port.Port as port;
 
@@ -37,6 +36,14 @@ impl Model for One {
     ghost view = { λ one. record { room = one.room; journal = one.journal.items } };
 
     ghost invariant = { λ one. Keeps one.room one.journal.items one.board };
+}
+
+/// The reply of what is only said, after this many entries.
+fn reply_of(prepared: Prepared, at: u64) -> Reply
+    ensures { result ≡ spec.told at prepared.body prepared.tail }
+{
+    let Prepared { body, tail, .. } = prepared;
+    Reply { at, body, tail }
 }
 
 impl One {
@@ -62,15 +69,15 @@ impl One {
     /// Answers a call: a read at the journal as it is, and a change by its entry or its refusal. On
     /// `AllocError`, want of memory, nothing has changed.
     pub fn answer(&mut self, alloc: Global, call: &Call) -> Result<Reply, AllocError>
-        ensures reply { IfOk result (λ reply. reply ≡ (spec.answer asmeta self.old.room self.old.journal 0 call.now).reply) }
-        ensures journal { OnOk result (self.new ≡ grown self.old (spec.answer asmeta self.old.room self.old.journal 0 call.now).entry) }
+        ensures reply { IfOk result (λ reply. reply
+            ≡ (spec.answer asmeta self.old.room self.old.journal 0 call.now).reply) }
+        ensures journal { OnOk result (self.new
+            ≡ grown self.old (spec.answer asmeta self.old.room self.old.journal 0 call.now).entry) }
         ensures err { OnErr result (self.new ≡ self.old) }
     {
         let prepared = prepare(alloc, &self.board, call)?;
         if !prepared.is_change() {
-            let Prepared { body, tail, .. } = prepared;
-            let at = self.board.front();
-            return Ok(Reply { at, body, tail });
+            return Ok(reply_of(prepared, self.board.front()));
         }
         let Outcome { reply, next } = prepared.outcome(alloc, self.room, &self.board, 0)?;
         match next {

@@ -7,12 +7,11 @@ ghost use Rattle.asm_board.specs.declared.call.Call.TheVariants as variants;
 ghost use Rattle.asm_board.specs.Changes.{Change, becomes, is_right_name};
 ghost use Rattle.asm_board.specs.Contents.{Contents};
 ghost use Rattle.asm_board.specs.Refusals.{Tried};
+ghost use Rattle.asm_board.specs.Replies.{tail_of};
 ghost use Rattle.asm_board.specs.Slots.{new_slots, slot_in, versions_in};
 ghost use Rattle.asm_portable.specs.declared.port.Port.{Port as Ports};
-ghost use Rattle.asm_core.specs.Comes.{Comes, accepted_of};
+ghost use Rattle.asm_core.specs.Preparing.{Comes, accepted_of, effect_of, read_made, change_made};
 ghost use Rattle.asm_core.specs.Language.{asmeta};
-ghost use Rattle.asm_core.specs.Effects.{effect_of};
-ghost use Rattle.asm_core.specs.Made.{read_made, change_made};
 
 use crate::changes::{Accepted, is_right_name, load, step_model};
 use crate::reads::{run, state};
@@ -27,7 +26,8 @@ use std::alloc::{AllocError, Global};
 
 /// What a read answers.
 fn read_body(shown: Result<Port, Stop>) -> Result<Body, AllocError>
-    ensures { (tried : Tried Ports) → Comes (λ tree. tree) tried shown → IfOk result (λ body. body ≡ body_of_read tried) }
+    ensures { (tried : Tried Ports) → Comes (λ tree. tree) tried shown
+        → IfOk result (λ body. body ≡ body_of_read tried) }
 {
     match shown {
         Ok(tree) => Ok(Body::Ok(tree)),
@@ -36,16 +36,42 @@ fn read_body(shown: Result<Port, Stop>) -> Result<Body, AllocError>
     }
 }
 
+/// What a prepared call has beside what it comes to: a copy of the call, the models of which it
+/// speaks, and the text of its body after the reply's number.
+#[derive(Drop)]
+struct Spoken {
+    call: Call,
+    versions: List<NameVersion>,
+    tail: Text,
+}
+
+fn told(
+    alloc: Global,
+    call: &Call,
+    body: &Body,
+    versions: List<NameVersion>,
+) -> Result<Spoken, AllocError>
+    ensures { IfOk result (λ told. told
+        ≡ record { call = call.now; versions = versions; tail = tail_of body.now }) }
+{
+    let tail = body.tail(alloc)?;
+    Ok(Spoken {
+        call: call.copy(alloc)?,
+        versions,
+        tail,
+    })
+}
+
 /// A read that answers this.
 fn read_made(alloc: Global, call: &Call, body: Body) -> Result<Prepared, AllocError>
     ensures { IfOk result (λ prepared. prepared ≡ read_made call.now body) }
 {
-    let tail = body.tail(alloc)?;
+    let told = told(alloc, call, &body, List::new(alloc))?;
     Ok(Prepared {
-        call: call.copy(alloc)?,
-        versions: List::new(alloc),
+        call: told.call,
+        versions: told.versions,
         body,
-        tail,
+        tail: told.tail,
         slots: List::new(alloc),
         loads: false,
         weight: 0,
@@ -97,7 +123,8 @@ fn effect_of(
     call: &Call,
     tried: Result<Accepted, Stop>,
 ) -> Result<Effect, AllocError>
-    ensures { (change : Change) → Comes accepted_of change tried → IfOk result (λ effect. effect ≡ effect_of call.now change) }
+    ensures { (change : Change) → Comes accepted_of change tried
+        → IfOk result (λ effect. effect ≡ effect_of call.now change) }
 {
     match tried {
         Ok(Accepted { ok, name, content }) => Ok(Effect {
@@ -114,6 +141,23 @@ fn effect_of(
     }
 }
 
+fn change_told(
+    alloc: Global,
+    board: &Board,
+    call: &Call,
+    name: &Text,
+    body: &Body,
+) -> Result<Spoken, AllocError>
+    ensures { IfOk result (λ told. told ≡ record {
+      call = call.now;
+      versions = versions_in board.now.slots (name.now ∷ []);
+      tail = tail_of body.now;
+    }) }
+{
+    let versions = versions_of(alloc, board, name)?;
+    told(alloc, call, body, versions)
+}
+
 /// A change of the model of this name that comes to this.
 fn change_made(
     alloc: Global,
@@ -124,22 +168,19 @@ fn change_made(
     tried: Result<Accepted, Stop>,
 ) -> Result<Prepared, AllocError>
     ensures { (change : Change) → Comes accepted_of change tried
-        → IfOk result (λ prepared. prepared ≡ change_made board.now call.now name.now loads change) }
+        → IfOk result
+        (λ prepared. prepared ≡ change_made board.now call.now name.now loads change) }
 {
-    let Effect {
-        body,
-        slots,
-        weight,
-    } = effect_of(alloc, call, tried)?;
-    let tail = body.tail(alloc)?;
+    let effect = effect_of(alloc, call, tried)?;
+    let told = change_told(alloc, board, call, name, &effect.body)?;
     Ok(Prepared {
-        call: call.copy(alloc)?,
-        versions: versions_of(alloc, board, name)?,
-        body,
-        tail,
-        slots,
+        call: told.call,
+        versions: told.versions,
+        body: effect.body,
+        tail: told.tail,
+        slots: effect.slots,
         loads,
-        weight,
+        weight: effect.weight,
     })
 }
 
@@ -181,7 +222,7 @@ fn step_prepared(
 }
 
 /// Evaluates a call at a board: its answer there, and for an accepted change the new slots and the
-/// weight of its entry, were there a place and room for it. It changes nothing.
+/// weight of its entry, were there room for it. It changes nothing.
 pub fn prepare(alloc: Global, board: &Board, call: &Call) -> Result<Prepared, AllocError>
     ensures { IfOk result (λ prepared. Stands asmeta prepared call.now board.now) }
 {

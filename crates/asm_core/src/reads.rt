@@ -1,8 +1,11 @@
 //! Reads: what a client is shown of texts and models.
-ghost use Rattle.std.specs.Prelude.{◌≡◌};
+ghost use Rattle.std.specs.Prelude.{◌≡◌, Ok};
 ghost use Rattle.asm_board.specs.Changes as changes;
+ghost use Rattle.asm_board.specs.Contents.{nothing_defined};
 ghost use Rattle.asm_board.specs.Reads as spec;
-ghost use Rattle.asm_core.specs.Comes.{Comes};
+ghost use Rattle.asm_board.specs.Refusals.{after};
+ghost use Rattle.asm_board.specs.Shown as show;
+ghost use Rattle.asm_core.specs.Preparing.{Comes};
 ghost use Rattle.asm_core.specs.Language.{asmeta};
 
 use crate::shown::{run_shown, state_shown};
@@ -11,6 +14,7 @@ use crate::stop::Stop;
 use crate::texts::program_in;
 use asm_board::{Board, Refusal, Slot};
 use asm_portable::Port;
+use asm_program::Program;
 use asm_value::Text;
 use std::alloc::Global;
 
@@ -24,13 +28,22 @@ pub fn found<'a>(alloc: Global, board: &'a Board, name: &Text) -> Result<&'a Slo
     }
 }
 
-/// What so many steps of a text show.
+/// What some steps of a program show.
+fn ran(alloc: Global, program: &Program, count: u64) -> Result<Port, Stop>
+    ensures { Comes (λ tree. tree)
+        (after (spec.steps_from asmeta program.now count 1 nothing_defined)
+        (λ state. Ok (show.run_shown program.now count state))) result }
+{
+    let state = steps(alloc, program, count)?;
+    Ok(run_shown(alloc, program, count, &state)?)
+}
+
+/// What some steps of a text show.
 pub fn run(alloc: Global, text: &str, count: u64) -> Result<Port, Stop>
     ensures { Comes (λ tree. tree) (spec.run asmeta text.now count) result }
 {
     let program = program_in(alloc, text)?;
-    let state = steps(alloc, &program, count)?;
-    Ok(run_shown(alloc, &program, count, &state)?)
+    ran(alloc, &program, count)
 }
 
 /// What a model shows.

@@ -1,20 +1,18 @@
 //! What a client is shown.
-ghost use Rattle.std.specs.Prelude.{◌≡◌, ◌<◌, ◌≤◌, [], ◌∷◌, length, IfOk, OnOk, IsTrue, insert, slice_set, if◌then◌else◌};
-ghost use Rattle.asm_portable.specs.Ports as ports;
+ghost use Rattle.std.specs.Prelude.{◌≡◌, [], ◌∷◌, codes, IfOk, OnOk};
+ghost use Rattle.asm_portable.specs.Ports.{field, fields};
 ghost use Rattle.asm_portable.specs.Values.{port_of};
-ghost use Rattle.asm_portable.specs.declared.port.Field.{Field};
 ghost use Rattle.asm_value.specs.State.{value_at};
 ghost use Rattle.asm_program.specs.Meaning as meaning;
 ghost use Rattle.asm_board.specs.Shown as spec;
-ghost use Rattle.asm_core.specs.Named.{with_shown};
+ghost use Rattle.asm_core.specs.Showing.{with_shown};
 
 use asm_board::{NamedSlot, Slot};
-use asm_portable::{Field, Port, push_field};
+use asm_portable::{Field, Port, push_field, put_field};
 use asm_program::Program;
 use asm_state::State;
-use asm_value::{Args, List, Location, Place, Text, Value};
+use asm_value::{Args, List, Location, Subject, Text, Value};
 use std::alloc::{AllocError, Global};
-use std::cmp::Ordering;
 
 /// The tree of a value, where no domain is declared.
 fn shown(alloc: Global, value: &Value) -> Result<Port, AllocError>
@@ -23,42 +21,12 @@ fn shown(alloc: Global, value: &Value) -> Result<Port, AllocError>
     asm_portable::port_of(alloc, &List::new(alloc), value)
 }
 
-/// Where a key stands, or has its place, among fields that ascend by key.
-fn place_of(fields: &[Field], key: &Text) -> (usize, bool)
-    ensures within { result.0 ≤ length fields.now }
-    ensures stands { IsTrue result.1 → result.0 < length fields.now }
-    ensures at { (f : Field) → f.key ≡ key.now → ports.put_field f fields.now
-        ≡ (if result.1 then slice_set fields.now result.0 f else insert fields.now result.0 f) }
-{
-    for (at, field) in fields.iter().enumerate() {
-        match key.cmp(&field.key) {
-            Ordering::Less => return (at, false),
-            Ordering::Equal => return (at, true),
-            Ordering::Greater => {}
-        }
-    }
-    (fields.len(), false)
-}
-
-/// Puts a field in its place.
-fn put_field(fields: &mut Vec<Field>, field: Field) -> Result<(), AllocError>
-    ensures { OnOk result (fields.new.items ≡ ports.put_field field fields.old.items) }
-{
-    let (at, stands) = place_of(fields.as_slice(), &field.key);
-    if stands {
-        fields[at] = field;
-    } else {
-        fields.insert(at, field)?;
-    }
-    Ok(())
-}
-
 /// The value of a function.
 fn value_of<'a>(alloc: Global, state: &'a State, function: u16) -> &'a Value
     ensures { result.now ≡ value_at state.now (meaning.location_of function) }
 {
     let location = Location {
-        place: Place::Function(function),
+        subject: Subject::Function(function),
         args: Args::new(alloc),
     };
     state.get(&location)
@@ -83,7 +51,7 @@ fn put_shown(
 
 /// The defined functions with their values, ascending by name.
 fn defined(alloc: Global, program: &Program, state: &State) -> Result<Vec<Field>, AllocError>
-    ensures { IfOk result (λ fields. fields.items ≡ ports.ascending (spec.defined state.now 0 program.now.functions)) }
+    ensures { IfOk result (λ fields. fields.items ≡ spec.functions_listed program.now state.now) }
 {
     let functions = program.functions.as_slice();
     let mut fields = Vec::new(alloc);
@@ -101,6 +69,19 @@ fn functions_shown(alloc: Global, program: &Program, state: &State) -> Result<Po
     Ok(Port::Fields(List::from_vec(defined(alloc, program, state)?)))
 }
 
+/// The first fields of what is shown: no domains, and the defined functions.
+fn first_fields(alloc: Global, program: &Program, state: &State) -> Result<List<Field>, AllocError>
+    ensures { IfOk result (λ first. first
+        ≡ field (codes "domains") (fields [])
+        ∷ field (codes "functions") (spec.functions_shown program.now state.now) ∷ []) }
+{
+    let mut first = List::new(alloc);
+    push_field(alloc, &mut first, "domains", Port::Fields(List::new(alloc)))?;
+    let functions = functions_shown(alloc, program, state)?;
+    push_field(alloc, &mut first, "functions", functions)?;
+    Ok(first)
+}
+
 /// What a run shows of its last state.
 pub fn run_shown(
     alloc: Global,
@@ -110,11 +91,9 @@ pub fn run_shown(
 ) -> Result<Port, AllocError>
     ensures { IfOk result (λ port. port ≡ spec.run_shown program.now steps state.now) }
 {
-    let functions = functions_shown(alloc, program, state)?;
-    let domains = Field::new(alloc, "domains", Port::Fields(List::new(alloc)))?;
-    let functions = Field::new(alloc, "functions", functions)?;
-    let steps = Field::new(alloc, "steps", Port::from_number(steps))?;
-    Ok(Port::Fields(List::from_vec(vec![in alloc; domains, functions, steps]?)))
+    let mut shown = first_fields(alloc, program, state)?;
+    push_field(alloc, &mut shown, "steps", Port::from_number(steps))?;
+    Ok(Port::Fields(shown))
 }
 
 /// What is shown of a model.
@@ -122,17 +101,20 @@ pub fn state_shown(alloc: Global, slot: &Slot) -> Result<Port, AllocError>
     ensures { IfOk result (λ port. port ≡ spec.state_shown slot.now) }
 {
     let content = slot.content.get();
-    let functions = functions_shown(alloc, content.program().get(), content.state())?;
-    let domains = Field::new(alloc, "domains", Port::Fields(List::new(alloc)))?;
-    let functions = Field::new(alloc, "functions", functions)?;
-    let invs = Field::new(alloc, "invs", Port::List(List::new(alloc)))?;
-    let version = Field::new(alloc, "version", Port::from_number(slot.version))?;
-    Ok(Port::Fields(List::from_vec(vec![in alloc; domains, functions, invs, version]?)))
+    let mut shown = first_fields(alloc, content.program().get(), content.state())?;
+    push_field(alloc, &mut shown, "invs", Port::List(List::new(alloc)))?;
+    push_field(
+        alloc,
+        &mut shown,
+        "version",
+        Port::from_number(slot.version),
+    )?;
+    Ok(Port::Fields(shown))
 }
 
 /// A model's name with its version.
 fn model_shown(alloc: Global, model: &NamedSlot) -> Result<Port, AllocError>
-    ensures { IfOk result (λ port. port ≡ ports.list (ports.text model.now.name ∷ ports.number model.now.slot.version ∷ [])) }
+    ensures { IfOk result (λ port. port ≡ spec.model_shown model.now) }
 {
     let name = Port::Text(model.name.copy(alloc)?);
     let version = Port::from_number(model.slot.version);

@@ -3,21 +3,22 @@ ghost use Rattle.std.specs.Prelude.{◌≡◌, IfOk};
 ghost use Rattle.asm_board.specs.Changes as spec;
 ghost use Rattle.asm_board.specs.Reads as reads;
 ghost use Rattle.asm_board.specs.Contents.{nothing_defined};
-ghost use Rattle.asm_core.specs.Comes.{Comes};
+ghost use Rattle.asm_core.specs.Preparing.{Comes};
 ghost use Rattle.asm_core.specs.Language.{asmeta};
-ghost use Rattle.asm_core.specs.Whose.{whose_by};
+ghost use Rattle.asm_core.specs.Showing.{whose_by};
 
 use crate::clashes::clash_shown;
 use crate::stop::Stop;
+use asm_board::the_first_clash_is_the_clash;
 use asm_fire::fire;
-use asm_laws::the_first_clash_is_the_clash;
 use asm_program::Program;
 use asm_rules::yields;
 use asm_state::State;
 use std::alloc::Global;
 
-/// The state after one step: the set that the main rule yields is fired. Where it has a clash nothing
-/// is fired, and the clash is refused: of a model by its name, of a run by the number of the step.
+/// The state after one step: the set that the main rule yields is fired. Where it has a clash
+/// nothing is fired, and the clash is refused: of a model by its name, of a run by the number of
+/// the step.
 pub fn stepped(
     alloc: Global,
     name: &str,
@@ -25,7 +26,8 @@ pub fn stepped(
     program: &Program,
     state: &State,
 ) -> Result<State, Stop>
-    ensures { Comes (λ state. state) (spec.stepped asmeta (whose_by name.now step) program.now state.now) result }
+    ensures { Comes (λ state. state)
+        (spec.stepped asmeta (whose_by name.now step) program.now state.now) result }
 {
     the_first_clash_is_the_clash();
     let updates = yields(alloc, program, state)?;
@@ -42,9 +44,10 @@ pub fn stepped(
     }
 }
 
-/// So many steps from the state in which no function is defined.
+/// This many steps from the state in which no function is defined.
 pub fn steps(alloc: Global, program: &Program, count: u64) -> Result<State, Stop>
-    ensures { Comes (λ state. state) (reads.steps_from asmeta program.now count 1 nothing_defined) result }
+    ensures { Comes (λ state. state)
+        (reads.steps_from asmeta program.now count 1 nothing_defined) result }
 {
     let mut state = State::new(alloc);
     for made in 0..count {

@@ -1,7 +1,7 @@
 use Rattle.std.proofs.Common.{refl, ap, ◌∙◌}
 use Rattle.asm_value.specs.State.{fire}
 use Rattle.asm_core.specs.Language.{asmeta}
-use Rattle.asm_core.specs.Whose.{whose_by}
+use Rattle.asm_core.specs.Showing.{whose_by}
 use Rattle.asm_core.proofs.Stepping.{fires}
 use Rattle.asm_core.proofs.steps.stepped.Goals as goal
 

@@ -1,5 +1,5 @@
 use Rattle.std.proofs.Common.{sym, subst}
-use Rattle.asm_texts.specs.Texts.{IsBadText, unbuilt}
+use Rattle.asm_meaning.specs.Texts.{IsBadText, unbuilt}
 use Rattle.asm_core.proofs.texts.meaning_of_tree.Goals as goal
 
 pub returns-in_ok-unbuilt-in-Err-Untyped : goal.returns-in_ok-unbuilt-in-Err-Untyped
