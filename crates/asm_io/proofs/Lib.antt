@@ -1,4 +1,5 @@
 pub mod Pieces
+pub mod Joined
 pub mod Kept
 pub mod Given
-pub mod Laws
+pub mod Going

@@ -24,7 +24,7 @@ pub record IsKept (b : Inside) : Type 0 where
   pub room : b.end ≤ limit + 1
   -- the bytes that were looked through hold no line feed
   pub looked : has_feed (slice_range b.bytes.items b.start b.seen) ≡ false
-  -- behind the source's end nothing is kept
+  -- after the source's end nothing is kept
   pub quiet : b.at_end ≡ true → b.start ≡ b.end
   pub quiet_over : b.at_end ≡ true → b.over ≡ false
   -- and the read that met it was within the budget

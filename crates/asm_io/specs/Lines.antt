@@ -1,5 +1,5 @@
 -- The lines of a list of bytes.
-use Rattle.std.specs.Prelude.{ℕ, ◌==◌, nat_le, Bool, List, [], ◌∷◌, length, if◌then◌else◌}
+use Rattle.std.specs.Prelude.{ℕ, ◌==◌, nat_le, Bool, List, [], ◌∷◌, ◌++◌, length, if◌then◌else◌}
 use Rattle.std.specs.List.{list_any}
 
 -- the most bytes that a line may have
@@ -23,10 +23,15 @@ abbrev pub first_piece : List ℕ → List ℕ
 first_piece [] = []
 first_piece (b ∷ bs) = if is_feed b then [] else b ∷ first_piece bs
 
--- the pieces behind the line feeds, one for each
+-- the pieces after the line feeds, one for each
 abbrev pub later_pieces : List ℕ → List (List ℕ)
 later_pieces [] = []
 later_pieces (b ∷ bs) = if is_feed b then first_piece bs ∷ later_pieces bs else later_pieces bs
+
+-- a first piece and later ones, with a line feed between each two
+abbrev pub joined : List ℕ → List (List ℕ) → List ℕ
+joined piece [] = piece
+joined piece (next ∷ more) = piece ++ 10 ∷ joined next more
 
 abbrev pub line_of : List ℕ → Line
 line_of piece = if nat_le (length piece) limit then whole piece else too_long

@@ -1,5 +1,6 @@
 -- What is kept of an input that is read line by line, and which lines are still to come.
-use Rattle.std.specs.Prelude.{◌≡◌, ℕ, ◌+◌, ◌<◌, List, [], ◌∷◌, ◌++◌, length, Bool, true, false, if◌then◌else◌, Option}
+use Rattle.std.specs.Prelude.{◌≡◌, ℕ, ◌+◌, ◌<◌, List, [], ◌∷◌, ◌++◌, length, Bool, true, false}
+use Rattle.std.specs.Prelude.{if◌then◌else◌, Option}
 use Rattle.std.specs.Io.KnownBytes.{Consumes}
 use Rattle.asm_io.specs.Lines.{Line, too_long, later_pieces, lines, lines_of, ended_lines, ended_of}
 
@@ -19,7 +20,7 @@ pub record Reading : Type 0 where
 abbrev pub fresh : ℕ → Reading
 fresh budget = record { line = []; over = false; kept = []; at_end = false; budget = budget }
 
--- the lines behind the first line feed
+-- the lines after the first line feed
 abbrev pub lines_behind : List (List ℕ) → List Line
 lines_behind [] = []
 lines_behind (piece ∷ more) = lines_of piece more
@@ -28,7 +29,7 @@ abbrev pub ended_behind : List (List ℕ) → List Line
 ended_behind [] = []
 ended_behind (piece ∷ more) = too_long ∷ ended_of piece more
 
--- the lines from a place on; where a line that is too long has begun before, that one is the first
+-- the lines from here on; where a line that is too long has begun before, that one is the first
 abbrev pub lines_from : Bool → List ℕ → List Line
 lines_from false bytes = lines bytes
 lines_from true bytes = too_long ∷ lines_behind (later_pieces bytes)
@@ -38,7 +39,7 @@ abbrev pub ended_from : Bool → List ℕ → List Line
 ended_from false bytes = ended_lines bytes
 ended_from true bytes = ended_behind (later_pieces bytes)
 
--- the lines of what is kept and of the bytes behind it
+-- the lines of what is kept and of the bytes after it
 abbrev pub lines_on : Reading → List ℕ → List Line
 lines_on r more = lines_from r.over (r.kept ++ more)
 
@@ -46,16 +47,19 @@ abbrev pub ended_on : Reading → List ℕ → List Line
 ended_on r more = ended_from r.over (r.kept ++ more)
 
 -- these bytes were taken from the source, and the budget fell by their number
-pub record Takes (left rest : Option (List ℕ)) (old new : Reading) (taken : List ℕ) : Type 0 where
+pub record Takes (left rest : Option (List ℕ)) (old new : Reading)
+    (taken : List ℕ) : Type 0 where
   pub consumes : Consumes left rest taken
   pub budget : new.budget + length taken ≡ old.budget
 
--- The input goes on: whatever comes behind the bytes taken, its lines are the given ones and then those still to come.
+-- The input goes on: whatever comes after the bytes taken, its lines are the given ones and then
+-- those still to come.
 pub record GoesOn (old new : Reading) (taken : List ℕ) (given : List Line) : Type 0 where
   pub lines : (more : List ℕ) → lines_on old (taken ++ more) ≡ given ++ lines_on new more
   pub ended : (more : List ℕ) → ended_on old (taken ++ more) ≡ given ++ ended_on new more
 
--- The input has ended: the given lines are all that were left, and nothing is kept. A read met the end, so the budget wasn't spent.
+-- The input has ended: the given lines are all that were left, and nothing is kept. A read met the
+-- end, so the budget wasn't spent.
 pub record Ends (old new : Reading) (taken : List ℕ) (given : List Line) : Type 0 where
   pub lines : lines_on old taken ≡ given
   pub kept : new.kept ≡ []

@@ -1,12 +1,13 @@
 -- What the steps do that a call of `read_line` is made of.
-use Rattle.std.specs.Prelude.{◌≡◌, ℕ, ◌-◌, ◌<◌, ◌≤◌, List, [], ◌∷◌, ◌++◌, length, take, slice_index, ◌||◌, nat_lt, true, false, if◌then◌else◌, Option, Ok}
+use Rattle.std.specs.Prelude.{◌≡◌, ℕ, ◌-◌, ◌<◌, ◌≤◌, List, [], ◌∷◌, ◌++◌, length, take, slice_index}
+use Rattle.std.specs.Prelude.{◌||◌, nat_lt, true, false, if◌then◌else◌, Option, Ok}
 use Rattle.std.specs.Io.KnownBytes.{Consumes}
 use Rattle.asm_io.specs.Lines.{limit, too_long, has_feed, line_of}
 use Rattle.asm_io.specs.Readings.{Reading, lines_from, fuel}
 use Rattle.asm_io.specs.LineEnds.{given, MeetsEnd, Lends, FallsUnlessEnd}
 use Rattle.asm_io.specs.declared.line_buf.LineEnd.{LineEnd}
 
--- a line feed stands there, and none before it
+-- a line feed is there, and none before it
 pub record IsFirstFeed (bytes : List ℕ) (at : ℕ) : Type 0 where
   pub within : at < length bytes
   pub feed : slice_index bytes at ≡ 10
@@ -37,9 +38,10 @@ pub record GivesLast (old new : Reading) (e : LineEnd) : Type 0 where
 
 -- a line of more than limit bytes is let go
 abbrev pub skipped : Reading → Reading
-skipped r = if r.over || nat_lt limit (length r.kept) then record r { over = true; kept = [] } else r
+skipped r =
+    if r.over || nat_lt limit (length r.kept) then record r { over = true; kept = [] } else r
 
--- the bytes that a read gave stand behind those kept
+-- the bytes that a read gave come after those kept
 pub record Fills (left rest : Option (List ℕ)) (old new : Reading) (count : ℕ) : Type 0 where
   pub taken : List ℕ
   pub consumes : Consumes left rest taken

@@ -9,6 +9,7 @@ use std::io::{Read, Write};
 #[derive(Drop)]
 pub struct ReadSource<R: Read> {
     reader: R,
+    reads: u64,
     faults: u64,
 }
 
@@ -18,16 +19,23 @@ impl<R: Read> ReadSource<R> {
         ensures left { ⟦<ReadSource<R> as Source>⟧.left result ≡ R.remaining reader }
         ensures faults { ⟦<ReadSource<R> as Source>⟧.faults result ≡ 0 }
     {
-        ReadSource { reader, faults: 0 }
+        ReadSource {
+            reader,
+            reads: 0,
+            faults: 0,
+        }
     }
 }
 
 impl<R: Read> Source for ReadSource<R> {
     ghost left = { λ s. R.remaining s.reader };
 
+    ghost reads = { λ s. s.reads };
+
     ghost faults = { λ s. s.faults };
 
     fn read(&mut self, into: &mut [u8]) -> Result<usize, Failed> {
+        self.reads = self.reads.saturating_add(1);
         match self.reader.read(into) {
             Ok(count) => Ok(count),
             Err(_) => {

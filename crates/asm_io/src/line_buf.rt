@@ -1,12 +1,13 @@
 //! Lines from a source, in memory that is taken once.
 
-ghost use Rattle.std.specs.Prelude.{◌≡◌, ◌<◌, ◌≤◌, ◌+◌, ◌-◌, [], length, take, true, false, ◌==◌, Ok, Err, IfOk, MatchOption, MatchResult};
+ghost use Rattle.std.specs.Prelude.{◌≡◌, ◌≢◌, ◌<◌, ◌≤◌, ◌-◌, [], length, take, true, false, ◌==◌};
+ghost use Rattle.std.specs.Prelude.{Ok, Err, IfOk, MatchOption, MatchResult};
 ghost use Rattle.std.specs.List.{slice_range};
 ghost use Rattle.std.specs.Io.KnownBytes.{IsAtEnd, Keeps};
-ghost use Rattle.asm_io.specs.Causes.{HasCause, Rose};
+ghost use Rattle.asm_io.specs.Causes.{HasCause, Rose, next};
 ghost use Rattle.asm_io.specs.Lines.{has_feed, limit};
 ghost use Rattle.asm_io.specs.Readings.{fresh, fuel};
-ghost use Rattle.asm_io.specs.LineEnds.{ReadsLine, Lends, FallsUnlessEnd};
+ghost use Rattle.asm_io.specs.LineEnds.{ReadsLine, Lends, StopsAtFeed, FallsUnlessEnd};
 ghost use Rattle.asm_io.specs.Steps.{IsFirstFeed, GivesNext, GivesLast, Fills, skipped};
 
 use crate::stream::{Failed, Source};
@@ -68,7 +69,7 @@ impl Model for LineBuf {
     ghost invariant = { IsKept };
 }
 
-/// The place of the first line feed.
+/// Where the first line feed is.
 fn first_feed(bytes: &[u8]) -> Option<usize>
     ensures { MatchOption result (has_feed bytes.now ≡ false) (IsFirstFeed bytes.now) }
 {
@@ -80,7 +81,7 @@ fn first_feed(bytes: &[u8]) -> Option<usize>
     None
 }
 
-/// Moves some bytes to the front. Where they stand there already, it costs nothing.
+/// Moves some bytes to the front. Where they are there already, it costs nothing.
 fn move_to_front(bytes: &mut Vec<u8>, from: usize, to: usize)
     requires order { from ≤ to }
     requires within { to ≤ length bytes.old.items }
@@ -207,6 +208,7 @@ impl LineBuf {
             (Fills (S.left source.old) (S.left source.new) self.old self.new)
             (λ _. Keeps (S.left source.old) (S.left source.new) × (self.new ≡ self.old)) }
         ensures end { IfOk result (λ n. n ≡ 0 → IsAtEnd (S.left source.new)) }
+        ensures counted { S.reads source.new ≡ next (S.reads source.old) }
         ensures cause { HasCause (S.faults source.old) (S.faults source.new) result }
     {
         move_to_front(&mut self.bytes, self.start, self.end);
@@ -249,22 +251,30 @@ impl LineBuf {
 }
 
 /// Reads to the end of the next line, and takes no memory.
-/// Where a line is kept already it reads nothing. It takes no byte past the budget, and a line that is too long
-/// is skipped to its end. After an error the next call goes on with what was taken.
+/// Where a line is kept already it reads nothing, and once a line feed has come it reads no more. It
+/// takes no byte past the budget, and a line that is too long is skipped to its end. After an error
+/// the next call goes on with what was taken.
 pub fn read_line<S: Source>(source: &mut S, buf: &mut LineBuf) -> Result<LineEnd, IoEnd>
     // what was taken and given
     ensures reads { ReadsLine (S.left source.old) (S.left source.new) buf.old buf.new result }
     ensures line { Lends result buf.new.line }
 
-    // behind the source's end nothing is read or kept
-    ensures at_end { buf.new.at_end ≡ true → (buf.old.at_end ≡ true → IsAtEnd (S.left source.old)) → IsAtEnd (S.left source.new) }
-    ensures after_end { buf.old.at_end ≡ true → (result ≡ Ok LineEnd.End) × (source.new ≡ source.old) }
+    // after the source's end nothing is read or kept
+    ensures at_end { buf.new.at_end ≡ true →
+        (buf.old.at_end ≡ true → IsAtEnd (S.left source.old)) → IsAtEnd (S.left source.new) }
+    ensures after_end { buf.old.at_end ≡ true →
+        (result ≡ Ok LineEnd.End) × (source.new ≡ source.old) }
 
-    // a line that is kept already is given with no read
+    // a line that is kept already is given with no read, and no read comes after a line feed
     ensures idle { has_feed buf.old.kept ≡ true → source.new ≡ source.old }
+    ensures stops { StopsAtFeed S.left S.reads source.old source.new buf.old.kept }
 
+    // a read failed where that is reported, and nowhere else
     ensures later { S.faults source.old ≤ S.faults source.new }
-    ensures read_fault { result ≡ Err IoEnd.ReadFault → Rose (S.faults source.old) (S.faults source.new) }
+    ensures unfailed { result ≢ Err IoEnd.ReadFault → S.faults source.new ≡ S.faults source.old }
+    ensures read_fault { result ≡ Err IoEnd.ReadFault →
+        Rose (S.faults source.old) (S.faults source.new) }
+
     ensures falls { IfOk result (λ e. FallsUnlessEnd e (fuel buf.old) (fuel buf.new)) }
 {
     buf.begin();

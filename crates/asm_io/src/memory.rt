@@ -1,10 +1,10 @@
-//! A source and a sink in memory, with calls that fail where they are told to.
+//! A source and a sink in memory, and which of their calls fail.
 
-ghost use Rattle.std.specs.Prelude.{◌≡◌, ◌<◌, ◌≤◌, [], length, Option, Some, IfOk, IsErr, is_err, ◌||◌, nat_le};
+ghost use Rattle.std.specs.Prelude.{◌≡◌, ◌<◌, [], length, Some, IfOk, is_err};
 ghost use Rattle.std.specs.Io.{ReadsAtMost, WritesAtMost};
 ghost use Rattle.std.specs.Io.KnownBytes.{ReadConsumes, WriteAppends, Keeps};
-ghost use Rattle.asm_io.specs.Causes.{HasCause};
-ghost use Rattle.asm_io.specs.Memory.{Feed, Store, is_told_to_fail, Counts};
+ghost use Rattle.asm_io.specs.Causes.{HasCause, next};
+ghost use Rattle.asm_io.specs.Memory.{is_to_fail, write_fails, given_of, taken_of, Counts};
 
 use crate::stream::{Failed, Sink, Source};
 use std::alloc::{AllocError, Global};
@@ -56,17 +56,24 @@ impl MemorySource {
 impl Source for MemorySource {
     ghost left = { λ s. Some s.left };
 
+    ghost reads = { λ s. s.calls };
+
     ghost faults = { λ s. s.faults };
 
     fn read(&mut self, into: &mut [u8]) -> Result<usize, Failed>
         requires { 0 < length into.old }
         ensures bound { ReadsAtMost result into.new }
         ensures bytes { ReadConsumes (Some self.old.left) (Some self.new.left) result into.new }
+        ensures counted { self.new.calls ≡ next self.old.calls }
         ensures cause { HasCause self.old.faults self.new.faults result }
 
-        // exactly the calls that are told to fail do
-        ensures fails { is_err result ≡ is_told_to_fail self.old.failing self.old.calls }
-        ensures counts { Counts self.old.calls self.new.calls self.old.faults self.new.faults (is_err result) }
+        // as many as are left and were asked for
+        ensures most { IfOk result (λ n. n ≡ given_of self.old (length into.old)) }
+
+        // exactly the calls that are to fail do
+        ensures fails { is_err result ≡ is_to_fail self.old.failing self.old.calls }
+        ensures counts { Counts self.old.calls self.new.calls
+            self.old.faults self.new.faults (is_err result) }
         ensures failing { self.new.failing ≡ self.old.failing }
     {
         let fails = self.failing.contains(&self.calls);
@@ -110,7 +117,8 @@ impl Model for MemorySink {
 }
 
 impl MemorySink {
-    /// A sink with room for so many bytes. Its writes and flushes are counted together from 0, and those in `failing` fail.
+    /// A sink with room for so many bytes. Its writes and flushes are counted together from 0, and
+    /// those in `failing` fail.
     /// Fails where memory runs out, and where `room` is more than memory can have.
     pub fn new(alloc: Global, room: u64, failing: &[u64]) -> Result<MemorySink, AllocError>
         ensures { IfOk result
@@ -145,9 +153,13 @@ impl Sink for MemorySink {
         ensures bytes { WriteAppends (Some self.old.held) (Some self.new.held) result from.now }
         ensures cause { HasCause self.old.faults self.new.faults result }
 
-        // exactly the calls that are told to fail do, and those that find no room
-        ensures fails { is_err result ≡ (is_told_to_fail self.old.failing self.old.calls || nat_le self.old.room (length self.old.held)) }
-        ensures counts { Counts self.old.calls self.new.calls self.old.faults self.new.faults (is_err result) }
+        // as many as have room and were given
+        ensures most { IfOk result (λ n. n ≡ taken_of self.old (length from.now)) }
+
+        // exactly the calls that are to fail do, and those that find no room
+        ensures fails { is_err result ≡ write_fails self.old }
+        ensures counts { Counts self.old.calls self.new.calls
+            self.old.faults self.new.faults (is_err result) }
         ensures failing { self.new.failing ≡ self.old.failing }
         ensures room { self.new.room ≡ self.old.room }
     {
@@ -168,8 +180,9 @@ impl Sink for MemorySink {
         ensures bytes { Keeps (Some self.old.held) (Some self.new.held) }
         ensures cause { HasCause self.old.faults self.new.faults result }
 
-        ensures fails { is_err result ≡ is_told_to_fail self.old.failing self.old.calls }
-        ensures counts { Counts self.old.calls self.new.calls self.old.faults self.new.faults (is_err result) }
+        ensures fails { is_err result ≡ is_to_fail self.old.failing self.old.calls }
+        ensures counts { Counts self.old.calls self.new.calls
+            self.old.faults self.new.faults (is_err result) }
         ensures failing { self.new.failing ≡ self.old.failing }
         ensures room { self.new.room ≡ self.old.room }
     {

@@ -1,10 +1,10 @@
 //! Where bytes come from and go to.
 
-ghost use Rattle.std.specs.Prelude.{◌<◌, ℕ, List, length, IfOk};
+ghost use Rattle.std.specs.Prelude.{◌≡◌, ◌<◌, ℕ, List, length, IfOk};
 ghost use Rattle.std.specs.declared.option.Option.{Option};
 ghost use Rattle.std.specs.Io.{ReadsAtMost, WritesAtMost};
 ghost use Rattle.std.specs.Io.KnownBytes.{ReadConsumes, WriteAppends, Keeps};
-ghost use Rattle.asm_io.specs.Causes.{HasCause};
+ghost use Rattle.asm_io.specs.Causes.{HasCause, next};
 
 /// A read, a write or a flush failed. It took and gave no byte.
 #[derive(Clone, Copy, Debug, PartialEq, Eq)]
@@ -15,15 +15,20 @@ pub trait Source {
     /// The bytes that reads give from here on, if it tells.
     ghost left: { Self → Option (List ℕ) };
 
+    /// How often it was read. The count stops at the last number of 64 bits.
+    ghost reads: { Self → ℕ };
+
     /// How many of its calls failed. The count stops at the last number of 64 bits.
     ghost faults: { Self → ℕ };
 
-    /// Reads once, into the front of `into`: the number of bytes that were given, and 0 only at the source's end.
+    /// Reads once, into the front of `into`: the number of bytes that were given, and 0 only at the
+    /// source's end.
     /// Fails where the read failed. It took nothing then, and the next read may succeed.
     fn read(&mut self, into: &mut [u8]) -> Result<usize, Failed>
         requires { 0 < length into.old }
         ensures bound { ReadsAtMost result into.new }
         ensures bytes { ReadConsumes (left self.old) (left self.new) result into.new }
+        ensures counted { reads self.new ≡ next (reads self.old) }
         ensures cause { HasCause (faults self.old) (faults self.new) result };
 }
 

@@ -1,10 +1,10 @@
 -- What a call took and gave, by the law of each way out.
-use Rattle.std.proofs.Common.{◌<◌, Ok, sym, ap, ◌∙◌, subst, arith}
+use Rattle.std.proofs.Common.{◌<◌, Ok, inr, sym, ap, ◌∙◌, subst, arith}
 use Rattle.asm_io.specs.Readings.{Reading}
 use Rattle.asm_io.specs.LineEnds.{ReadsLine}
 use Rattle.asm_io.specs.Steps.{Fills}
 use Rattle.asm_io.specs.declared.line_buf.LineEnd.TheVariants as ends
-use Rattle.asm_io.proofs.Laws.{ready, going_filled, reads_nothing, reads_given, reads_fault, reads_last, idle_no_more}
+use Rattle.asm_io.proofs.Going.{ready, going_filled, reads_nothing, reads_given, reads_fault, reads_last, read_on, idle_no_more}
 use Rattle.asm_io.proofs.line_buf.read_line.Goals as goal
 
 pub returns-then-is_at_end-clause-reads : goal.returns-then-is_at_end-clause-reads
@@ -46,6 +46,16 @@ returns-in-Ok-eq0-clause-reads g c =
     (going_filled left mid rest c.args.buf.now c.skip_long.new.self c.fill.new.self c.in-Ok-eq0.field-0 ready_now.going fills)
     (omega (arith, ready_now.some, budget, c.in-Ok-eq0.field-0-test)) c.give_last.ensures
 
+pub returns-in-Err-clause-stops : goal.returns-in-Err-clause-stops
+returns-in-Err-clause-stops g c =
+    inr (read_on g.S.Source.left g.S.Source.reads c.args.source.now c.loop-given.source c.fill.new.source c.args.buf.now c.loop-given.buf
+    c.loop-given.invariant.going c.in_default.ensures.0 c.in-Err.ensures.counted)
+
+pub returns-in-Ok-eq0-clause-stops : goal.returns-in-Ok-eq0-clause-stops
+returns-in-Ok-eq0-clause-stops g c =
+    inr (read_on g.S.Source.left g.S.Source.reads c.args.source.now c.loop-given.source c.fill.new.source c.args.buf.now c.loop-given.buf
+    c.loop-given.invariant.going c.in_default.ensures.0 c.in-Ok-eq0.ensures.counted)
+
 pub loop-given-preserved : goal.loop-given-preserved
 loop-given-preserved g c =
     let left = g.S.Source.left c.args.source.now in
@@ -55,6 +65,8 @@ loop-given-preserved g c =
     c.in_default.ensures.0 c.in_default.ensures.1 c.if-is_spent.ensures c.skip_long.ensures.after in
     record {
       going = going_filled left mid rest c.args.buf.now c.skip_long.new.self c.fill.new.self c.in-Ok.field-0 ready_now.going c.in-Ok.ensures.cases;
-      later = omega (arith, c.loop-given.invariant.later, c.in-Ok.ensures.cause.later);
+      unfailed = c.in-Ok.ensures.cause.unfailed ∙ c.loop-given.invariant.unfailed;
+      stops = inr (read_on g.S.Source.left g.S.Source.reads c.args.source.now c.loop-given.source c.fill.new.source c.args.buf.now c.loop-given.buf
+          c.loop-given.invariant.going c.in_default.ensures.0 c.in-Ok.ensures.counted);
       idle = λ h. absurd (cc (h, idle_no_more left mid c.args.buf.now c.loop-given.buf c.loop-given.invariant.going c.in_default.ensures.0));
     }

@@ -1,4 +1,4 @@
-use Rattle.std.proofs.Common.{arith, length-drop}
+use Rattle.std.proofs.Common.{arith, ◌∙◌, length-drop}
 use Rattle.std.proofs.Math.Seq.{take-add}
 use Rattle.std.proofs.lemmas.List.{take_rest}
 use Rattle.std.proofs.KnownBytes.{Appends-trans}
@@ -10,5 +10,5 @@ loop-at-preserved g c =
     let took = rw take_rest at c.in_ok-at.ensures.bound in (
       omega (arith, length-drop c.loop-at.at c.args.bytes.now),
       rw take-add (Appends-trans _ _ _ _ _ c.loop-at.invariant.1 (rw take_rest at c.in_ok-at.ensures.bytes)),
-      omega (arith, c.in_ok-at.ensures.cause.later),
+      c.in_ok-at.ensures.cause.unfailed ∙ c.loop-at.invariant.2,
     )

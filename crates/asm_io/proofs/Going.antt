@@ -6,7 +6,8 @@ use Rattle.std.proofs.lemmas.Bool.Decides.{leb_tells, nat_tests}
 use Rattle.std.proofs.lemmas.List.Folds.{list_any-append}
 use Rattle.asm_io.specs.Lines.{Line, limit, too_long, is_feed, has_feed, line_of, lines, ended_lines}
 use Rattle.asm_io.specs.Readings.{Reading, lines_on, ended_on, lines_from, ended_from, Takes, GoesOn, Gives, fuel}
-use Rattle.asm_io.specs.LineEnds.{given, MeetsEnd, ReadsLine}
+use Rattle.asm_io.specs.Causes.{next}
+use Rattle.asm_io.specs.LineEnds.{given, MeetsEnd, ReadsLine, ReadsToFeed}
 use Rattle.asm_io.specs.Steps.{GivesNext, GivesLast, Fills, skipped}
 use Rattle.asm_io.specs.declared.line_buf.LineEnd.{LineEnd}
 use Rattle.asm_io.specs.declared.line_buf.LineEnd.TheVariants as ends
@@ -247,6 +248,12 @@ reads_nothing left first at_end kept over room = record {
   spent = λ h. absurd (cc);
   spends = λ h. absurd (cc (at_end, h.unended));
 }
+
+-- one more read, where no line feed came so far
+pub read_on : {S : Type 0} (left : S → Option (List ℕ)) (reads : S → ℕ) (old last new : S) (first now : Reading)
+    → GoingOn (left old) (left last) first now → has_feed now.kept ≡ false → reads new ≡ next (reads last) → ReadsToFeed left reads old new first.kept
+read_on left reads old last new first now s h once =
+    record { last = last; before = s.taken; consumes = s.takes.consumes; once = once; unfed = s.feed ∙ h }
 
 -- a line feed that was kept is still there
 pub idle_no_more : (left rest : Option (List ℕ)) (first now : Reading) → GoingOn left rest first now → has_feed now.kept ≡ false → has_feed first.kept ≡ false
