@@ -1,2 +1,5 @@
 mod Members
 mod Parts
+pub mod Asked
+pub mod OneLine
+pub mod Objects

@@ -29,7 +29,8 @@ string_in key request = is_there (string_at key request) (bad_request key)
 
 -- a whole number from 0 to this, which has to be there
 abbrev pub number_in : ℕ → List ℕ → Data → Tried ℕ
-number_in most key request = is_there (within most (option_and_then natural_of (get key request))) (bad_request key)
+number_in most key request =
+    is_there (within most (option_and_then natural_of (get key request))) (bad_request key)
 
 abbrev pub fits_if_there : (Data → Bool) → Option Data → Bool
 fits_if_there fits None = true
@@ -68,7 +69,8 @@ is_inputs d = are_inputs (as_object d)
 -- the first key that isn't among these; keys ascend
 abbrev pub first_other : List (List ℕ) → Members → Option (List ℕ)
 first_other keys no_members = None
-first_other keys (member key d ms) = if list_any (bytes_eq key) keys then first_other keys ms else Some key
+first_other keys (member key d ms) =
+    if list_any (bytes_eq key) keys then first_other keys ms else Some key
 
 abbrev pub no_other : Option (List ℕ) → Tried (Unit {0})
 no_other None = Ok tt
@@ -140,10 +142,12 @@ models_in request =
 -- the operations that aren't built
 abbrev pub later_operations : List (List ℕ)
 later_operations =
-    codes "unload" ∷ codes "value" ∷ codes "text" ∷ codes "log" ∷ codes "addinv" ∷ codes "dropinv" ∷ codes "rollback" ∷ codes "swap" ∷ []
+    codes "unload" ∷ codes "value" ∷ codes "text" ∷ codes "log"
+    ∷ codes "addinv" ∷ codes "dropinv" ∷ codes "rollback" ∷ codes "swap" ∷ []
 
 abbrev pub other_in : List ℕ → Tried Call
-other_in op = Err (if list_any (bytes_eq op) later_operations then unbuilt else bad_request (codes "op"))
+other_in op =
+    Err (if list_any (bytes_eq op) later_operations then unbuilt else bad_request (codes "op"))
 
 abbrev pub call_by : List ℕ → Data → Tried Call
 call_by op request =

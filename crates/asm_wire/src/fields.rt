@@ -2,7 +2,7 @@
 ghost use Rattle.std.specs.Prelude.{◌≡◌, map, option_map};
 ghost use Rattle.serde_json.specs.View.{view, members_view};
 ghost use Rattle.asm_board.specs.Refusals.{needs, bad_request};
-ghost use Rattle.asm_wire.specs.Refused.{Tells, TellsAs};
+ghost use Rattle.asm_wire.specs.Refused.{Reports, ReportsAs};
 ghost use Rattle.asm_wire.specs.Requests as spec;
 
 use crate::inputs::is_inputs;
@@ -14,7 +14,7 @@ use std::alloc::Global;
 
 /// Refuses a field that isn't fit.
 fn needs_field(alloc: Global, fits: bool, key: &str) -> Result<(), WireRefusal>
-    ensures { Tells (needs fits (bad_request key.now)) result }
+    ensures { Reports (needs fits (bad_request key.now)) result }
 {
     if fits {
         return Ok(());
@@ -28,7 +28,7 @@ pub(crate) fn string_in<'a>(
     key: &str,
     request: &'a Value,
 ) -> Result<&'a str, WireRefusal>
-    ensures { TellsAs (λ s. s.now) (spec.string_in key.now (view request.now)) result }
+    ensures { ReportsAs (λ s. s.now) (spec.string_in key.now (view request.now)) result }
 {
     match request.get(key).and_then(Value::as_str) {
         Some(text) => Ok(text),
@@ -43,7 +43,7 @@ pub(crate) fn number_in(
     key: &str,
     request: &Value,
 ) -> Result<u64, WireRefusal>
-    ensures { Tells (spec.number_in most key.now (view request.now)) result }
+    ensures { Reports (spec.number_in most key.now (view request.now)) result }
 {
     match request.get(key).and_then(Value::as_u64) {
         Some(number) if number <= most => Ok(number),
@@ -53,7 +53,7 @@ pub(crate) fn number_in(
 
 /// A whole number from 0 to 2^64 - 1 that may be there.
 pub(crate) fn optional_natural(alloc: Global, key: &str, request: &Value) -> Result<(), WireRefusal>
-    ensures { Tells (spec.optional spec.is_natural key.now (view request.now)) result }
+    ensures { Reports (spec.optional spec.is_natural key.now (view request.now)) result }
 {
     match request.get(key) {
         None => Ok(()),
@@ -73,7 +73,7 @@ fn is_pick(value: &Value) -> bool
 
 /// Null or such a number, which may be there.
 pub(crate) fn optional_pick(alloc: Global, key: &str, request: &Value) -> Result<(), WireRefusal>
-    ensures { Tells (spec.optional spec.is_pick key.now (view request.now)) result }
+    ensures { Reports (spec.optional spec.is_pick key.now (view request.now)) result }
 {
     match request.get(key) {
         None => Ok(()),
@@ -83,7 +83,7 @@ pub(crate) fn optional_pick(alloc: Global, key: &str, request: &Value) -> Result
 
 /// The inputs of a step, which may be there.
 pub(crate) fn optional_inputs(alloc: Global, key: &str, request: &Value) -> Result<(), WireRefusal>
-    ensures { Tells (spec.optional spec.is_inputs key.now (view request.now)) result }
+    ensures { Reports (spec.optional spec.is_inputs key.now (view request.now)) result }
 {
     match request.get(key) {
         None => Ok(()),
@@ -106,7 +106,7 @@ fn first_other<'a>(keys: &[&str], members: &'a Map<String, Value>) -> Option<&'a
 
 /// Refuses the least field that isn't among these.
 pub(crate) fn only(alloc: Global, keys: &[&str], request: &Value) -> Result<(), WireRefusal>
-    ensures { Tells (spec.only (map (λ k. k.now) keys.now) (view request.now)) result }
+    ensures { Reports (spec.only (map (λ k. k.now) keys.now) (view request.now)) result }
 {
     match request
         .as_object()
@@ -119,7 +119,7 @@ pub(crate) fn only(alloc: Global, keys: &[&str], request: &Value) -> Result<(), 
 
 /// Refuses a field that isn't built.
 pub(crate) fn without(key: &str, request: &Value) -> Result<(), WireRefusal>
-    ensures { Tells (spec.without key.now (view request.now)) result }
+    ensures { Reports (spec.without key.now (view request.now)) result }
 {
     match request.get(key) {
         None => Ok(()),

@@ -1,9 +1,11 @@
 //! Lines as calls.
-ghost use Rattle.std.specs.Prelude.{◌≡◌, Ok, Err, IfOk, IfErr, IfSome};
+ghost use Rattle.std.specs.Prelude.{◌≡◌, Ok, IfOk, IfErr};
 ghost use Rattle.serde_json.specs.View.{view};
-ghost use Rattle.asm_wire.specs.Refused.{refusal_in, Tells};
+ghost use Rattle.asm_wire.specs.Refused.{refusal_in, IsRefused, Reports};
 ghost use Rattle.asm_wire.specs.Requests as spec;
 ghost use Rattle.asm_wire.specs.Requests.{Asks};
+ghost use Rattle.asm_board.specs.declared.call.Call as calls;
+ghost use Rattle.asm_board.specs.Refusals.{Tried};
 
 use crate::fields::{
     number_in, only, optional_inputs, optional_natural, optional_pick, string_in, without,
@@ -24,7 +26,7 @@ const LATER_OPERATIONS: [&str; 8] = [
 ];
 
 fn run_in(alloc: Global, request: &Value) -> Result<Call, WireRefusal>
-    ensures { Tells (spec.run_in (view request.now)) result }
+    ensures { Reports (spec.run_in (view request.now)) result }
 {
     let text = string_in(alloc, "text", request)?;
     let steps = number_in(alloc, MOST_STEPS, "steps", request)?;
@@ -38,7 +40,7 @@ fn run_in(alloc: Global, request: &Value) -> Result<Call, WireRefusal>
 }
 
 fn load_in(alloc: Global, request: &Value) -> Result<Call, WireRefusal>
-    ensures { Tells (spec.load_in (view request.now)) result }
+    ensures { Reports (spec.load_in (view request.now)) result }
 {
     let name = string_in(alloc, "name", request)?;
     let text = string_in(alloc, "text", request)?;
@@ -49,7 +51,7 @@ fn load_in(alloc: Global, request: &Value) -> Result<Call, WireRefusal>
 }
 
 fn step_in(alloc: Global, request: &Value) -> Result<Call, WireRefusal>
-    ensures { Tells (spec.step_in (view request.now)) result }
+    ensures { Reports (spec.step_in (view request.now)) result }
 {
     let formula = string_in(alloc, "formula", request)?;
     optional_inputs(alloc, "inputs", request)?;
@@ -65,7 +67,7 @@ fn step_in(alloc: Global, request: &Value) -> Result<Call, WireRefusal>
 }
 
 fn state_in(alloc: Global, request: &Value) -> Result<Call, WireRefusal>
-    ensures { Tells (spec.state_in (view request.now)) result }
+    ensures { Reports (spec.state_in (view request.now)) result }
 {
     let name = string_in(alloc, "name", request)?;
     optional_natural(alloc, "since", request)?;
@@ -76,7 +78,7 @@ fn state_in(alloc: Global, request: &Value) -> Result<Call, WireRefusal>
 }
 
 fn models_in(alloc: Global, request: &Value) -> Result<Call, WireRefusal>
-    ensures { Tells (spec.models_in (view request.now)) result }
+    ensures { Reports (spec.models_in (view request.now)) result }
 {
     optional_natural(alloc, "since", request)?;
     only(alloc, &["op", "since"], request)?;
@@ -86,7 +88,7 @@ fn models_in(alloc: Global, request: &Value) -> Result<Call, WireRefusal>
 
 /// Why no other operation is built.
 fn other_in(alloc: Global, op: &str) -> Result<Call, WireRefusal>
-    ensures { Tells (spec.other_in op.now) result }
+    ensures { Reports (spec.other_in op.now) result }
 {
     if is_among(&LATER_OPERATIONS, op) {
         return Err(WireRefusal::Unbuilt);
@@ -95,7 +97,7 @@ fn other_in(alloc: Global, op: &str) -> Result<Call, WireRefusal>
 }
 
 fn call_by(alloc: Global, op: &str, request: &Value) -> Result<Call, WireRefusal>
-    ensures { Tells (spec.call_by op.now (view request.now)) result }
+    ensures { Reports (spec.call_by op.now (view request.now)) result }
 {
     match op {
         "run" => run_in(alloc, request),
@@ -108,7 +110,7 @@ fn call_by(alloc: Global, op: &str, request: &Value) -> Result<Call, WireRefusal
 }
 
 fn call_in(alloc: Global, request: &Value) -> Result<Call, WireRefusal>
-    ensures { Tells (spec.call_in (view request.now)) result }
+    ensures { Reports (spec.call_in (view request.now)) result }
 {
     if !request.is_object() {
         return Err(WireRefusal::BadRequest(Text::new(alloc)));
@@ -117,16 +119,26 @@ fn call_in(alloc: Global, request: &Value) -> Result<Call, WireRefusal>
     call_by(alloc, op, request)
 }
 
-/// The call that a line asks for, or the first reason why it asks for none: it isn't JSON; it is no
-/// object; its operation is missing or unknown; a field, in the order of the operation's fields, is
-/// missing or unfit; it has another field, the least of which is told; or it isn't built.
-pub fn read_request(alloc: Global, line: &[u8]) -> Result<Call, WireRefusal>
+fn call_of(alloc: Global, line: &[u8]) -> Result<Call, WireRefusal>
     ensures asked { IfOk result (λ call. Asks line.now (Ok call)) }
-    ensures refused { IfErr result (λ why. IfSome (refusal_in why) (λ refusal. Asks line.now (Err refusal))) }
+    ensures refused { IfErr result (λ why. IsRefused line.now (refusal_in why)) }
 {
     match Value::from_slice(alloc, line) {
         Ok(value) => call_in(alloc, &value),
         Err(error) if error.is_memory() => Err(WireRefusal::NoMemory),
         Err(_) => Err(WireRefusal::BadJson),
     }
+}
+
+/// The call that a line asks for, or the first reason why it asks for none: it isn't JSON; it is no
+/// object; its operation is missing or unknown; a field, in the order of the operation's fields, is
+/// missing or unfit; it has another field, the least of which is reported; or it isn't built.
+pub fn read_request(alloc: Global, line: &[u8]) -> Result<Call, WireRefusal>
+    ensures asked { IfOk result (λ call. Asks line.now (Ok call)) }
+    ensures refused { IfErr result (λ why. IsRefused line.now (refusal_in why)) }
+
+    // whatever the line asks for is what is reported, unless memory runs out
+    ensures reported { (asked : Tried calls.Call) → Asks line.now asked → Reports asked result }
+{
+    call_of(alloc, line)
 }
