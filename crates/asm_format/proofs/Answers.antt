@@ -6,7 +6,7 @@ use Rattle.asm_syntax.specs.Canonical.{canonical}
 use Rattle.asm_print.specs.Again.{IsModelAgain}
 use Rattle.asm_parse.specs.declared.refusal.ParseRefusal.{ParseRefusal}
 use Rattle.asm_parse.specs.declared.refusal.ParseRefusal.TheVariants.{Lex, Syntax, Unsupported, TooDeep, NoMemory}
-use Rattle.asm_parse.specs.Answers.{IsRead, IsModelCause, IsTold, StandsIn}
+use Rattle.asm_parse.specs.Answers.{IsRead, IsModelCause, IsTold, IsWithin}
 use Rattle.asm_format.specs.Formatted.{IsFormatted, IsSame}
 
 -- ---- a text that has a tree
@@ -31,9 +31,9 @@ pub only : (found tree : ModelTree) (result : Result (List ℕ) ParseRefusal) �
 only found tree (Ok t) alike written memory = written ∙ ap canonical alike
 only found tree (Err why) alike written memory = subst (λ w. IsRead (canonical tree) (Err w)) (sym memory) tt
 
-pub placed : (text : List ℕ) (result : Result (List ℕ) ParseRefusal) → IfErr result (λ why. why ≡ NoMemory) → IfErr result (StandsIn text)
-placed text (Ok t) memory = tt
-placed text (Err why) memory = subst (StandsIn text) (sym memory) tt
+pub within : (text : List ℕ) (result : Result (List ℕ) ParseRefusal) → IfErr result (λ why. why ≡ NoMemory) → IfErr result (IsWithin text)
+within text (Ok t) memory = tt
+within text (Err why) memory = subst (IsWithin text) (sym memory) tt
 
 -- ---- a text that has none
 
@@ -46,8 +46,8 @@ tree_refused why = Err why
 abbrev refused : ParseRefusal → Result (List ℕ) ParseRefusal
 refused why = Err why
 
-pub told_first : (tree : ModelTree) (why : ParseRefusal) (result : Result (List ℕ) ParseRefusal) → IsTold why (tree_read tree) → IsTold why result
-told_first tree why result e = absurd (cc e)
+pub reported_first : (tree : ModelTree) (why : ParseRefusal) (result : Result (List ℕ) ParseRefusal) → IsTold why (tree_read tree) → IsTold why result
+reported_first tree why result e = absurd (cc e)
 
 pub none_read : (tree : ModelTree) (text : List ℕ) (why : ParseRefusal) → IsRead tree (tree_refused why) → IsRead text (refused why)
 none_read tree text NoMemory h = tt
@@ -56,9 +56,9 @@ none_read tree text (Syntax at) h = absurd h
 none_read tree text (Unsupported w at) h = absurd h
 none_read tree text (TooDeep at) h = absurd h
 
-pub same_told : (given why : ParseRefusal) → IsTold why (tree_refused given) → IsTold why (refused given)
-same_told NoMemory why h = tt
-same_told (Lex w) why h = cc h
-same_told (Syntax at) why h = cc h
-same_told (Unsupported w at) why h = cc h
-same_told (TooDeep at) why h = cc h
+pub same_reported : (given why : ParseRefusal) → IsTold why (tree_refused given) → IsTold why (refused given)
+same_reported NoMemory why h = tt
+same_reported (Lex w) why h = cc h
+same_reported (Syntax at) why h = cc h
+same_reported (Unsupported w at) why h = cc h
+same_reported (TooDeep at) why h = cc h

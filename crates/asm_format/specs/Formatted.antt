@@ -14,4 +14,5 @@ pub record IsFormatted (text formatted : List ℕ) : Type 0 where
 -- where it is no longer than a text may be, both texts have the same model, apart from spans
 abbrev pub IsSame : List ℕ → List ℕ → Type 0
 IsSame text formatted = length formatted ≤ most_bytes
-    → (before : ModelTree) × (after : ModelTree) × IsModel text before × IsModel formatted after × (bare_model after ≡ bare_model before)
+    → (before : ModelTree) × (after : ModelTree) × IsModel text before × IsModel formatted after
+    × (bare_model after ≡ bare_model before)

@@ -5,12 +5,12 @@ ghost use Rattle.asm_syntax.specs.Texts.{IsModel};
 ghost use Rattle.asm_syntax.specs.Canonical.{canonical};
 ghost use Rattle.asm_print.specs.Again.{IsModelAgain};
 ghost use Rattle.asm_parse.specs.declared.refusal.ParseRefusal.{ParseRefusal as Refusal};
-ghost use Rattle.asm_parse.specs.Answers.{IsRead, IsModelCause, IsTold, StandsIn};
+ghost use Rattle.asm_parse.specs.Answers.{IsRead, IsModelCause, IsTold, IsWithin};
 ghost use Rattle.asm_format.specs.Formatted.{IsFormatted, IsSame};
 
 use asm_parse::{ParseRefusal, parse_model};
 use asm_print::print_model;
-use asm_syntax::{ModelTree, Name as Text};
+use asm_syntax::{ModelTree, Text};
 use std::alloc::Global;
 
 /// The canonical text of the model that a text has, or the text's first refusal. Comments and
@@ -25,8 +25,8 @@ pub fn format(alloc: Global, text: &str) -> Result<Text, ParseRefusal>
     ensures only { (tree : Tree) → IsModel text.now tree → IsRead (canonical tree) result }
     ensures first { (why : Refusal) → IsModelCause text.now why → IsTold why result }
 
-    // where it stands
-    ensures placed { IfErr result (StandsIn text.now) }
+    // where it is
+    ensures within { IfErr result (IsWithin text.now) }
 {
     match parse_model(alloc, text) {
         Ok(tree) => printed(alloc, &tree),

@@ -1,14 +1,10 @@
 //! The program: writes the text of a model anew, in its canonical form. It reads standard input and
-//! writes on standard output. A text that isn't a model's is told on standard error, with its line
-//! and column, and the status is 1.
+//! writes on standard output. A text that isn't a model's is reported on standard error, with its
+//! line and column, and the status is 1.
 #![tactic(auto)]
 
-#[cfg(test)]
-mod crossing;
 mod format;
 mod refused;
-#[cfg(test)]
-mod tests;
 
 use std::io;
 use std::process::ExitCode;

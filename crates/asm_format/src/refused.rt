@@ -1,4 +1,4 @@
-//! What is told of a text that is refused.
+//! What is reported of a text that is refused.
 ghost use Rattle.std.specs.Prelude.{◌≤◌, length};
 ghost use Rattle.asm_syntax.specs.Texts.{most_bytes};
 
@@ -7,7 +7,7 @@ use asm_parse::ParseRefusal;
 use asm_syntax::{LineColumn, place};
 use std::alloc::{AllocError, Global};
 
-/// The refusal in words, behind its line and column where it has a place: `2:5: ...`.
+/// The refusal in words, after its line and column where it is at a byte: `2:5: ...`.
 pub(crate) fn message(alloc: Global, text: &str, why: &ParseRefusal) -> Result<String, AllocError> {
     match byte(why) {
         Some(at) => {

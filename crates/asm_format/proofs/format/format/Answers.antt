@@ -15,13 +15,13 @@ pub returns-in-Ok-clause-only : goal.returns-in-Ok-clause-only
 returns-in-Ok-clause-only c = λ tree model. answers.only c.in-Ok.tree tree _ (c.in-Ok.ensures.only tree model) c.printed.ensures.text c.printed.ensures.memory
 
 pub returns-in-Ok-clause-first : goal.returns-in-Ok-clause-first
-returns-in-Ok-clause-first c = λ why cause. answers.told_first c.in-Ok.tree why _ (c.in-Ok.ensures.first why cause)
+returns-in-Ok-clause-first c = λ why cause. answers.reported_first c.in-Ok.tree why _ (c.in-Ok.ensures.first why cause)
 
-pub returns-in-Ok-clause-placed : goal.returns-in-Ok-clause-placed
-returns-in-Ok-clause-placed c = answers.placed c.args.text.now _ c.printed.ensures.memory
+pub returns-in-Ok-clause-within : goal.returns-in-Ok-clause-within
+returns-in-Ok-clause-within c = answers.within c.args.text.now _ c.printed.ensures.memory
 
 pub returns-in-Err-clause-only : goal.returns-in-Err-clause-only
 returns-in-Err-clause-only c = λ tree model. answers.none_read tree (canonical tree) c.in-Err.why (c.in-Err.ensures.only tree model)
 
 pub returns-in-Err-clause-first : goal.returns-in-Err-clause-first
-returns-in-Err-clause-first c = λ why cause. answers.same_told c.in-Err.why why (c.in-Err.ensures.first why cause)
+returns-in-Err-clause-first c = λ why cause. answers.same_reported c.in-Err.why why (c.in-Err.ensures.first why cause)
