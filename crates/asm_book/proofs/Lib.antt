@@ -1,0 +1,9 @@
+mod Adding
+pub mod Gathers
+mod Journals
+mod LastLooks
+mod Longest
+mod Prefixes
+mod Rising
+mod SeatLists
+mod Settling
