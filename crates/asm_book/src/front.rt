@@ -55,7 +55,7 @@ impl<L: Opening> Head<L> {
 
 impl<L: Opening> Front<L> {
     /// What was seen of a history that is empty.
-    pub fn new(seen: Seen<Entry, u64, Law>) -> Front<L>
+    pub(crate) fn new(seen: Seen<Entry, u64, Law>) -> Front<L>
         requires { (seen.log ≡ []) × (seen.book ≡ L.history) }
         ensures { result ≡ [] }
     {
@@ -105,7 +105,7 @@ impl<L: Opening> Front<L> {
     }
 
     /// Of two beginnings the shorter begins the longer.
-    pub fn begins(&self, other: &Front<L>)
+    pub(crate) fn begins(&self, other: &Front<L>)
         requires { length self.now ≤ length other.now }
         ensures { IsPrefix self.now other.now }
     {
@@ -114,7 +114,7 @@ impl<L: Opening> Front<L> {
     }
 
     /// Adds an entry to all that was seen, and says whether it did: not where the history is longer.
-    pub fn push(&mut self, head: &Head<L>, entry: &Entry) -> bool
+    pub(crate) fn push(&mut self, head: &Head<L>, entry: &Entry) -> bool
         requires room { length self.old < 2 ^ 62 }
         requires legal { Legal L.meanings L.room (self.old ++ entry.now ∷ []) }
         ensures { MatchBool result (self.new ≡ self.old ++ entry.now ∷ []) (self.new ≡ self.old) }

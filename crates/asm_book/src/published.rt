@@ -59,7 +59,7 @@ impl Model for Published {
 }
 
 impl Published {
-    pub fn new<L: Opening>(board: Arc<Board>, front: &Front<L>) -> Published
+    pub(crate) fn new<L: Opening>(board: Arc<Board>, front: &Front<L>) -> Published
         requires { arc_value board ≡ board_of L.meanings front.now }
         ensures of { IsOf L.meanings L.history L.room result }
         ensures log { result.log ≡ front.now }
@@ -185,7 +185,7 @@ impl<L: Opening> SeatReader<L> {
     }
 
     /// Takes in a history that is no shorter than what was seen.
-    pub fn catch_up(&mut self, front: &Front<L>)
+    pub(crate) fn catch_up(&mut self, front: &Front<L>)
         requires { IsPrefix self.old front.now }
         ensures { self.new ≡ front.now }
     {
