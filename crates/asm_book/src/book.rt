@@ -64,7 +64,8 @@ impl<L: Opening, R: Wait + Drop> Book<L, R> {
     }
 }
 
-/// Ends all tokens of an opening, and answers the length of its one journal.
+/// Ends all tokens of an opening, in the order of their seats, and answers the length of its one
+/// journal. It waits for the lock.
 pub fn gather<L: Opening, R: Wait + Drop, W: Wait>(
     rt: &W,
     book: &Book<L, R>,
@@ -82,7 +83,10 @@ pub fn gather<L: Opening, R: Wait + Drop, W: Wait>(
 }
 
 impl<L: Opening> Token<L> {
-    /// Settles a prepared call at the journal as it is when the lock is taken.
+    /// Settles a prepared change at the journal as it is when the lock is taken, for which it
+    /// waits. `Stale` where a model that it speaks of has another version there, with the board;
+    /// else its reply, with which an accepted change is one more entry of this seat. `NoMemory`
+    /// where memory is wanting: then neither the journal nor the seat's own entries have changed.
     pub fn commit<R: Wait + Drop, W: Wait>(
         &mut self,
         rt: &W,
@@ -103,7 +107,7 @@ impl<L: Opening> Token<L> {
         self.commit_at(alloc, journal, prepared)
     }
 
-    /// Takes the lock. The history that was seen is then the held journal.
+    /// Takes the lock, for which it waits. The history that was seen is then the held journal.
     pub fn hold<'a, R: Wait + Drop, W: Wait>(
         &mut self,
         rt: &W,
@@ -142,7 +146,8 @@ impl<'a, L: Opening, R: Wait + Drop> Held<'a, L, R> {
         self.journal.entries(from, count)
     }
 
-    /// Settles a prepared call of the token that holds, at the held journal.
+    /// Settles a prepared change of the token that holds, at the held journal. The answers are
+    /// those of `Token::commit`.
     pub fn commit(
         &mut self,
         alloc: Global,
@@ -162,7 +167,7 @@ impl<'a, L: Opening, R: Wait + Drop> Held<'a, L, R> {
     }
 }
 
-/// Two tokens of one opening: afterwards the other has seen what both had seen.
+/// Two tokens of one opening: afterwards the other has seen what both had seen. Takes no memory.
 pub fn meet<L: Opening>(one: &mut Token<L>, other: &mut Token<L>)
     ensures theirs { IsPrefix one.old.history other.new.history
         × IsPrefix other.old.history other.new.history }

@@ -86,6 +86,7 @@ impl<L: Opening> Front<L> {
         self.seen.again()
     }
 
+    /// The number of its entries.
     pub fn len(&self) -> u64
         ensures length { result ≡ length self.now }
         ensures legal { Legal L.meanings L.room self.now }
@@ -113,7 +114,8 @@ impl<L: Opening> Front<L> {
         both.learn(&other.seen);
     }
 
-    /// Adds an entry to all that was seen, and says whether it did: not where the history is longer.
+    /// Adds an entry to all that was seen, and says whether it did: not where the history is
+    /// longer.
     pub(crate) fn push(&mut self, head: &Head<L>, entry: &Entry) -> bool
         requires room { length self.old < 2 ^ 62 }
         requires legal { Legal L.meanings L.room (self.old ++ entry.now ∷ []) }

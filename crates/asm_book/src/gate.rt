@@ -11,15 +11,16 @@ use crate::published::SeatReader;
 use asm_board::Board;
 use std::sync::{Arc, Wait};
 
-/// One entrance: the front of the board that was given, if one was, and whether the seat has passed.
+/// One entrance: the front of the board that was given, if one was, and whether the seat has
+/// passed.
 #[derive(Clone, Copy, Debug)]
 pub struct Look {
     pub front: Option<u64>,
     pub passed: bool,
 }
 
-/// What a seat enters through. It counts the entrances that it refused; the count never falls. It may
-/// tell its looks, in order.
+/// What a seat enters through. It counts the entrances that it refused; the count never falls. It
+/// may tell its looks, in order.
 pub trait Gate {
     ghost use Rattle.std.specs.Prelude.{ℕ, List, Option};
     ghost use Rattle.asm_book.specs.declared.gate.Look.{Look};
@@ -28,8 +29,8 @@ pub trait Gate {
 
     ghost looks: { Self → Option (List Look) };
 
-    /// Enters once, with the reader of one seat, and gives what that gives: a board of its history after
-    /// it, which begins with the history before. None is a refused entrance. Takes no memory.
+    /// Enters once, with the reader of one seat, and gives what that gives: a board of its history
+    /// after it, which begins with the history before. None is a refused entrance. Takes no memory.
     fn enter<L: Opening>(&mut self, reader: &mut SeatReader<L>) -> Option<Arc<Board>>
         ensures later { IsPrefix reader.old reader.new }
         ensures board { IfSome result (λ b. arc_value b ≡ board_of L.meanings reader.new) }

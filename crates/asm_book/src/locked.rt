@@ -256,7 +256,8 @@ impl<L: Opening, R: Wait + Drop> LockedJournal<L, R> {
         true
     }
 
-    /// Ends all tokens of the opening, and answers the length of the journal. No entry is left over.
+    /// Ends all tokens of the opening, and answers the length of the journal. No entry is left
+    /// over.
     pub(crate) fn gather(&mut self, tokens: Vec<Token<L>>) -> u64
         requires parts { L.seats ≡ L.parts }
         requires all { vec_len tokens ≡ L.seats }

@@ -43,8 +43,9 @@ impl Model for MemoryGate {
 }
 
 impl MemoryGate {
-    /// A gate with room for so many looks. Its entrances are counted from 0, and those in `refusing`
-    /// are refused. Fails where memory runs out, and where `room` is more than memory can have.
+    /// A gate with room for so many looks. Its entrances are counted from 0, and those in
+    /// `refusing` are refused. Fails where memory runs out, and where `room` is more than memory
+    /// can have.
     pub fn new(alloc: Global, room: u64, refusing: &[u64]) -> Result<MemoryGate, AllocError>
         ensures { IfOk result (λ g. g ≡ record {
           looks = Some [];

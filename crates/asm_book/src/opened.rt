@@ -21,14 +21,18 @@ use std::sync::{Arc, Mutex, Wait};
 
 /// A published board with one reader a seat. It is not `Drop`.
 pub struct Snapshots<L: Opening> {
+    /// What publishes later boards.
     pub writer: BoardWriter<L>,
+    /// In the order of the seats.
     pub readers: Vec<SeatReader<L>>,
 }
 
 /// Why there are no snapshots: the making failed, or memory was wanting.
 #[derive(Clone, Copy)]
 pub enum MakeEnd {
+    /// A reader was refused; the maker has counted it.
     Failed,
+    /// Memory ran out.
     NoMemory,
 }
 
@@ -36,6 +40,8 @@ pub enum MakeEnd {
 pub trait Maker {
     ghost faults: { Self → ℕ };
 
+    /// Publishes the empty board, with a reader for each of 1 to 64 seats. `Failed` where a reader
+    /// is refused, which is counted; `NoMemory` where memory is wanting.
     fn make<L: Opening, R: Wait>(
         &mut self,
         rt: &R,
@@ -59,12 +65,13 @@ pub struct RealMaker {
 }
 
 impl RealMaker {
+    /// A maker that has counted no fault yet. Takes no memory.
     pub fn new() -> RealMaker {
         RealMaker { faults: 0 }
     }
 }
 
-// A reader for each seat. False where one is refused.
+/// A reader for each seat. `Failed` where one is refused.
 fn read_all<L: Opening>(
     alloc: Global,
     writer: &BoardWriter<L>,
@@ -150,7 +157,9 @@ fn deal<L: Opening>(
     Ok(tokens)
 }
 
-/// Opens a book with an empty journal, and a token for each seat.
+/// Opens a book with an empty journal, and a token for each of 1 to 64 seats, in their order. The
+/// room is that of the journal, in units of weight. `NoReader` where the maker fails, `NoMemory`
+/// where memory is wanting: what was not opened yet is given up then.
 pub fn open_book<L: Opening, M: Maker, R: Wait + Drop>(
     rt: R,
     alloc: Global,

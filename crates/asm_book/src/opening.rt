@@ -55,9 +55,9 @@ impl Plain<Entry, Entry, u64> for Add {
     ghost state = { λ entry. None };
 }
 
-/// One opening of a book: its ledger, its history, its seats and its room, and what texts mean there.
-/// It has no value; a program opens its book inside a function over an opening, and calls that with
-/// `Brand`.
+/// One opening of a book: its ledger, its history, its seats and its room, and what texts mean
+/// there. It has no value; a program opens its book inside a function over an opening, and calls
+/// that with `Brand`.
 pub trait Opening: Ledger {
     ghost use Rattle.logbook.specs.Pages.{Book};
     ghost use Rattle.asm_board.specs.Meanings.{Meanings};

@@ -205,8 +205,8 @@ impl<L: Opening> SeatReader<L> {
         }
     }
 
-    /// Takes the board that is published, if it is let in and the board is no older than what the seat
-    /// has seen.
+    /// Takes the board that is published, if it is let in and the board is no older than what the
+    /// seat has seen.
     pub fn enter(&mut self) -> Option<Arc<Board>>
         ensures later { IsPrefix self.old self.new }
         ensures board { IfSome result (λ b. arc_value b ≡ board_of L.meanings self.new) }

@@ -69,13 +69,14 @@ impl<L: Opening> Token<L> {
         }
     }
 
+    /// The number of its seat, from 0. Takes no memory.
     pub fn seat(&self) -> u32
         ensures { result ≡ self.now.seat }
     {
         self.seat
     }
 
-    /// The front that was seen last.
+    /// The front that was seen last: the number of entries of its history. Takes no memory.
     pub fn seen(&self) -> u64
         ensures seen { result ≡ length self.now.history }
         ensures legal { Legal L.meanings L.room self.now.history }
@@ -84,13 +85,14 @@ impl<L: Opening> Token<L> {
         self.reader.front().len()
     }
 
+    /// How often it was held, 2^64 - 1 meaning that and more. Takes no memory.
     pub fn holds(&self) -> u64
         ensures { result ≡ self.now.holds }
     {
         self.holds
     }
 
-    // Its part of the ledger.
+    /// Its part of the ledger.
     pub(crate) fn into_share(self) -> Share<L>
         ensures parts { result.parts ≡ 1 }
         ensures amount { result.amount ≡ length self.mine }
@@ -133,7 +135,9 @@ impl<L: Opening> Token<L> {
         self.reader.learn(front);
     }
 
-    /// Enters once through the gate, and waits for nobody.
+    /// Enters once through the gate, and waits for nobody: the board of the history that is seen
+    /// then, which goes on from what was seen. None where the gate refuses the entrance. Takes no
+    /// memory.
     pub fn peek<G: Gate>(&mut self, gate: &mut G) -> Option<Arc<Board>>
         ensures later { IsPrefix self.old.history self.new.history }
         ensures board { IfSome result (λ b. arc_value b ≡ board_of L.meanings self.new.history) }
