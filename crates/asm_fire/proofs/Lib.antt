@@ -1,0 +1,2 @@
+-- The laws of inverses.
+pub mod Back

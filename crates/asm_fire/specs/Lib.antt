@@ -1,0 +1,2 @@
+-- What contracts cite: updates back to a state.
+pub mod Inverses

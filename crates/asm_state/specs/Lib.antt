@@ -1,1 +1,2 @@
--- No definitions of this crate's own: states are defined below, in the specs of values.
+-- States are defined below, in the specs of values; here is what a function has in one.
+pub mod Functions

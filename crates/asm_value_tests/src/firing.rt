@@ -1,5 +1,5 @@
 //! Sets of updates and what firing them leaves, worked out by hand.
-use asm_fire::fire;
+use asm_fire::fire_in_place;
 use asm_state::State;
 use asm_updates::UpdateSet;
 use asm_value::{Args, Location, Subject, Update, Value};
@@ -72,7 +72,7 @@ fn later_updates_replace_the_earlier_and_united_ones_are_beside_them(
 /// Fires the set where it has no clash, and whether it has none.
 fn fired(alloc: Global, state: &mut State, set: &UpdateSet) -> Result<bool, AllocError> {
     if set.clash().is_none() {
-        fire(alloc, state, set)?;
+        fire_in_place(alloc, state, set)?;
         return Ok(true);
     }
     Ok(false)

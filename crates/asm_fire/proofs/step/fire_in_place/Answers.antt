@@ -2,7 +2,7 @@
 use Rattle.std.proofs.Common.{sym, subst}
 use Rattle.asm_value.specs.State.{AreConsistent}
 use Rattle.asm_value.proofs.StateLaws.{items-AreConsistent}
-use Rattle.asm_fire.proofs.step.fire.Goals as goal
+use Rattle.asm_fire.proofs.step.fire_in_place.Goals as goal
 
 pub set_all-requires : goal.set_all-requires
 set_all-requires c =
