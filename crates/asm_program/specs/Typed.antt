@@ -1,223 +1,286 @@
--- Which trees are programs, and which program a tree is, for the part of the language that is run:
--- no definitions and no initial state, controlled functions without arguments, and few forms of
--- terms and rules. At most 256 functions are declared, names differ and are declared, and domains
--- agree.
-use Rattle.std.specs.Prelude.{◌≡◌, ℕ, ◌+◌, Bool, true, false, not, ◌&&◌, nat_le, if◌then◌else◌, ℤ, pos, List, [], ◌∷◌, length, map, Option, Some, None, option_and_then, codes}
-use Rattle.std.specs.Option.{option_map}
-use Rattle.std.specs.List.{list_any}
+-- Which trees are programs, which program a tree is, and the first refusal of a tree that is none.
+use Rattle.std.specs.Prelude.{◌≡◌, ℕ, ◌+◌, ◌-◌, ◌^◌, min, nat_lt, nat_le, Bool, true, false, not, ◌&&◌, if◌then◌else◌, Option, Some, None, List, [], ◌∷◌, ◌++◌, map, length, sum, take, drop, get_or, slice_get, IsTrue, codes}
+use Rattle.std.specs.Option.{option_map_or}
+use Rattle.std.specs.List.{filter_map}
 use Rattle.std.specs.Str.{bytes_eq}
 use Rattle.std.proofs.Common.{refl}
 use Rattle.std.proofs.lemmas.Bool.{leb-true}
-use Rattle.asm_value.specs.declared.value.Value.TheVariants as values
 use Rattle.asm_value.specs.declared.domain.Domain.{Domain}
-use Rattle.asm_value.specs.declared.domain.Domain.TheVariants as domains
-use Rattle.asm_value.specs.declared.domain.Domain.TheOpen.{Domain-F}
-use Rattle.asm_value.specs.declared.domain.Domain.TheViews.{out-Domain}
+use Rattle.asm_value.specs.declared.domain.DomainInfo.{DomainInfo}
+use Rattle.asm_syntax.specs.declared.token.Span.{Span}
 use Rattle.asm_syntax.specs.declared.token.Token.{Token}
-use Rattle.asm_syntax.specs.declared.token.TokenKind.{TokenKind}
-use Rattle.asm_syntax.specs.declared.token.TokenKind.TheVariants.{Id, Number}
-use Rattle.asm_syntax.specs.declared.tree.DomainTree.{DomainTree}
-use Rattle.asm_syntax.specs.declared.tree.DomainTree.TheOpen.{DomainTree-F}
-use Rattle.asm_syntax.specs.declared.tree.DomainTree.TheViews.{out-DomainTree}
-use Rattle.asm_syntax.specs.declared.tree.DeclTree.{DeclTree}
-use Rattle.asm_syntax.specs.declared.tree.DeclTree.TheVariants.{Dynamic}
-use Rattle.asm_syntax.specs.declared.tree.DefTree.{DefTree}
-use Rattle.asm_syntax.specs.declared.tree.InitTree.{InitTree}
+use Rattle.asm_syntax.specs.declared.tree.ParamsTree.{ParamsTree}
 use Rattle.asm_syntax.specs.declared.tree.TermTree.{TermTree}
-use Rattle.asm_syntax.specs.declared.tree.TermTree.TheOpen.{TermTree-F}
-use Rattle.asm_syntax.specs.declared.tree.TermTree.TheViews.{out-TermTree}
-use Rattle.asm_syntax.specs.declared.tree.RuleTree.{RuleTree}
-use Rattle.asm_syntax.specs.declared.tree.RuleTree.TheOpen.{RuleTree-F, RuleCaseTree-F}
-use Rattle.asm_syntax.specs.declared.tree.RuleTree.TheFolds.{fold-RuleTree}
+use Rattle.asm_syntax.specs.declared.tree.DeclTree.{DeclTree}
+use Rattle.asm_syntax.specs.declared.tree.DefTree.{DefTree}
+use Rattle.asm_syntax.specs.declared.tree.DefTree.TheVariants as def
+use Rattle.asm_syntax.specs.declared.tree.StartTree.{StartTree}
 use Rattle.asm_syntax.specs.declared.tree.ModelTree.{ModelTree}
-use Rattle.asm_syntax.specs.Extents.{Parts}
+use Rattle.asm_syntax.specs.Marks.{text_of}
+use Rattle.asm_program.specs.declared.named.Named.{Named}
+use Rattle.asm_program.specs.declared.named.Named.TheVariants as named
+use Rattle.asm_program.specs.declared.type_refusal.Limited.TheVariants.{Depth}
+use Rattle.asm_program.specs.declared.type_refusal.TypeRefusal.{TypeRefusal}
+use Rattle.asm_program.specs.declared.type_refusal.TypeRefusal.TheVariants.{Limit, TooMuchWork}
 use Rattle.asm_program.specs.declared.trees.Term.{Term}
-use Rattle.asm_program.specs.declared.trees.Term.TheVariants.{Constant, Read}
 use Rattle.asm_program.specs.declared.trees.Rule.{Rule}
-use Rattle.asm_program.specs.declared.trees.Rule.TheVariants as rules
 use Rattle.asm_program.specs.declared.program.FunctionInfo.{FunctionInfo}
+use Rattle.asm_program.specs.declared.program.MacroInfo.{MacroInfo}
+use Rattle.asm_program.specs.declared.program.InitInfo.{InitInfo}
+use Rattle.asm_program.specs.declared.program.Inv.{Inv}
 use Rattle.asm_program.specs.declared.program.Program.{Program}
-
--- ---- names and numbers of tokens
-
-abbrev pub name_in : TokenKind → List ℕ
-name_in (Id name) = name
-name_in _ = []
-
-abbrev pub name_of : Token → List ℕ
-name_of t = name_in t.kind
-
-abbrev pub number_in : TokenKind → ℤ
-number_in (Number n) = n
-number_in _ = pos 0
-
-abbrev pub number_of : Token → ℤ
-number_of t = number_in t.kind
-
--- ---- all of them
-
--- all of them, if each is there
-abbrev pub all_of : {A : Type 0} → List (Option A) → Option (List A)
-all_of [] = Some []
-all_of (None ∷ rest) = None
-all_of (Some x ∷ rest) = option_map (λ all. x ∷ all) (all_of rest)
+use Rattle.asm_program.specs.Members.{everyone_of}
+use Rattle.asm_program.specs.Nesting.{functions_are_ranked, macros_are_ranked}
+use Rattle.asm_program.specs.Counts.{function_depth, term_depth, rule_depth, function_work, term_work, rule_work, start_work, most_count}
+use Rattle.asm_program.specs.Items.{model_items, invariant_name, starts_of}
+use Rattle.asm_program.specs.Signatures.{Header, names_of, find, param_domains, declared_header}
+use Rattle.asm_program.specs.NamesPass.{names_refused}
+use Rattle.asm_program.specs.DomainsPass.{domains_refused}
+use Rattle.asm_program.specs.FunctionsPass.{functions_refused, is_defined}
+use Rattle.asm_program.specs.Calls.{calls_refused}
+use Rattle.asm_program.specs.TypedTerms.{Scope, checked}
+use Rattle.asm_program.specs.TypedRules.{CheckedRule}
+use Rattle.asm_program.specs.TypedModels.{scope_of, declared_name, body_checked, macro_checked, types_refused}
 
 -- ---- functions
 
-abbrev pub domain_in : DomainTree-F DomainTree → Option Domain
-domain_in (DomainTree-F.Truth span) = Some domains.Truth
-domain_in (DomainTree-F.Int span) = Some domains.Int
-domain_in _ = None
+-- the term of the first definition of a function
+abbrev pub definition_of : Scope → List ℕ → List DefTree → Option Term
+definition_of scope name [] = None
+definition_of scope name (def.Function t params term span ∷ rest) =
+    if bytes_eq (text_of t) name then Some (body_checked scope params term).term
+    else definition_of scope name rest
+definition_of scope name (_ ∷ rest) = definition_of scope name rest
 
--- the truth values, or the integers
-abbrev pub domain_of : DomainTree → Option Domain
-domain_of domain = domain_in (out-DomainTree domain)
+abbrev pub body_if : Bool → Option Term → Option Term
+body_if true body = body
+body_if false body = None
 
-abbrev pub is_controlled : List ℕ → Bool
-is_controlled kind = bytes_eq kind (codes "controlled")
+-- a static or derived function has a term
+abbrev pub function_info : Scope → List DefTree → DeclTree → Header → FunctionInfo
+function_info scope defs decl h = record {
+  name = declared_name decl;
+  kind = h.kind;
+  args = h.args;
+  result = h.result;
+  body = body_if (is_defined h.kind) (definition_of scope (declared_name decl) defs);
+  depth = 0;
+  work = 0;
+}
 
-abbrev pub function_with : Token → Option Domain → Option FunctionInfo
-function_with name domain =
-    option_map (λ result. record { name = name_of name; result = result }) domain
+abbrev pub function_in : Scope → List DefTree → DeclTree → Option FunctionInfo
+function_in scope defs decl =
+    option_map_or (λ h. Some (function_info scope defs decl h))
+    (declared_header defs scope.names decl) None
 
--- a controlled function without arguments
-abbrev pub function_of : DeclTree → Option FunctionInfo
-function_of (Dynamic kind name domain None span) =
-    if is_controlled kind then function_with name (domain_of domain) else None
-function_of _ = None
+-- with their depth and work still to be counted
+abbrev pub uncounted : Scope → ModelTree → List FunctionInfo
+uncounted scope tree = filter_map (function_in scope tree.defs) tree.decls
 
-abbrev pub functions_of : List DeclTree → Option (List FunctionInfo)
-functions_of decls = all_of (map function_of decls)
+abbrev pub counted_from : List DomainInfo → List FunctionInfo → ℕ → List FunctionInfo
+    → List FunctionInfo
+counted_from domains all f [] = []
+counted_from domains all f (info ∷ infos) =
+    record info {
+      depth = function_depth all f;
+      work = min (function_work domains all f) most_count;
+    }
+    ∷ counted_from domains all (f + 1) infos
 
-abbrev pub function_name : FunctionInfo → List ℕ
-function_name f = f.name
+abbrev pub functions_of : Scope → ModelTree → List FunctionInfo
+functions_of scope tree =
+    let all = uncounted scope tree in counted_from scope.domains all 0 all
 
-abbrev pub is_truth_in : Domain-F Domain → Bool
-is_truth_in Domain-F.Truth = true
-is_truth_in _ = false
+-- ---- macro rules and the main rule
 
--- the truth values: all other functions have integers
-abbrev pub is_truth : Domain → Bool
-is_truth domain = is_truth_in (out-Domain domain)
+-- the macro rules, with so many `choose` words before them
+abbrev pub macros_from : Scope → ℕ → List DefTree → List MacroInfo
+macros_from scope n [] = []
+macros_from scope n (def.Rule name params body span ∷ rest) =
+    let c = macro_checked scope params body in
+    record {
+      name = text_of name;
+      params = param_domains scope.names params;
+      body = c.rule n;
+    }
+    ∷ macros_from scope (n + c.chooses) rest
+macros_from scope n (_ ∷ rest) = macros_from scope n rest
 
--- a function's number, and whether it has truth values
-abbrev pub Declared : Type 0
-Declared = ℕ × Bool
+abbrev pub macros_of : Scope → ModelTree → List MacroInfo
+macros_of scope tree = macros_from scope 0 tree.defs
 
--- the first function of a name among those from number n on
-abbrev pub find_from : ℕ → List FunctionInfo → List ℕ → Option Declared
-find_from n [] name = None
-find_from n (f ∷ fs) name =
-    if bytes_eq (function_name f) name then Some (n, is_truth f.result)
-    else find_from (n + 1) fs name
+abbrev pub chooses_in : Scope → List DefTree → ℕ
+chooses_in scope [] = 0
+chooses_in scope (def.Rule name params body span ∷ rest) =
+    (macro_checked scope params body).chooses + chooses_in scope rest
+chooses_in scope (_ ∷ rest) = chooses_in scope rest
 
-abbrev pub find : List FunctionInfo → List ℕ → Option Declared
-find functions name = find_from 0 functions name
+abbrev pub main_of : Scope → ModelTree → Rule
+main_of scope tree = (macro_checked scope None tree.rule).rule (chooses_in scope tree.defs)
 
--- ---- terms
+-- ---- the initial state and the invariants
 
--- a typed term, and whether it has a truth value: else it has an integer
-abbrev pub Typed : Type 0
-Typed = Term × Bool
+abbrev pub number_in : Option Named → ℕ
+number_in (Some (named.Function f)) = f
+number_in _ = 0
 
-abbrev pub read : Option Declared → Option Typed
-read found = option_map (λ d. (Read d.0, d.1)) found
+abbrev pub init_of : Scope → StartTree → InitInfo
+init_of scope s =
+    let c = body_checked scope s.params s.term in
+    record {
+      function = number_in (find scope.names (text_of s.function));
+      body = c.term;
+      span = c.span;
+    }
 
-abbrev pub term_in : List FunctionInfo → Parts → Option Typed
-term_in functions (TermTree-F.Number t span) = Some (Constant (values.Int (number_of t)), false)
-term_in functions (TermTree-F.True span) = Some (Constant (values.Truth true), true)
-term_in functions (TermTree-F.False span) = Some (Constant (values.Truth false), true)
-term_in functions (TermTree-F.Name t None span) = read (find functions (name_of t))
-term_in functions _ = None
+abbrev pub inits_of : Scope → ModelTree → List InitInfo
+inits_of scope tree = map (init_of scope) (starts_of tree.init)
 
--- a literal, or a function's value
-abbrev pub term_of : List FunctionInfo → TermTree → Option Typed
-term_of functions t = term_in functions (out-TermTree t)
+-- no character is cut before this byte of the text
+abbrev pub is_boundary : List ℕ → ℕ → Bool
+is_boundary text at =
+    let byte = get_or text at 0 in
+    nat_le at (length text) && not (nat_le 128 byte && nat_lt byte 192)
 
--- both have truth values, or both have integers
-abbrev pub same_domain : Bool → Bool → Bool
-same_domain true b = b
-same_domain false b = not b
+-- the bytes of a part of the text; none where the span isn't a part that cuts no character
+abbrev pub slice_of : List ℕ → Span → List ℕ
+slice_of text span =
+    if nat_le span.start span.end && is_boundary text span.start && is_boundary text span.end then
+    take (span.end - span.start) (drop span.start text)
+    else []
 
--- ---- rules
+-- the invariants, of which the k-th comes next
+abbrev pub invariants_from : List ℕ → Scope → ℕ → List DefTree → List Inv
+invariants_from text scope k [] = []
+invariants_from text scope k (def.Invariant name first others term span ∷ rest) =
+    let c = checked scope term [] in
+    record {
+      name = invariant_name k name;
+      added = false;
+      source = slice_of text c.span;
+      term = c.term;
+    }
+    ∷ invariants_from text scope (k + 1) rest
+invariants_from text scope k (_ ∷ rest) = invariants_from text scope k rest
 
--- an update's term has its function's domain
-abbrev pub update_of : Option Declared → Option Typed → Option Rule
-update_of None value = None
-update_of (Some f) None = None
-update_of (Some f) (Some t) = if same_domain f.1 t.1 then Some (rules.Update f.0 t.0) else None
+-- ---- depth and work
 
-abbrev pub par_of : List (Option Rule) → Option Rule
-par_of parts = option_map (λ all. rules.Par all) (all_of parts)
+-- a definition of this depth, which is at most 512
+abbrev pub depth_refused : ℕ → Span → List TypeRefusal
+depth_refused depth span =
+    if nat_lt 512 depth then Limit Depth (min depth most_count) span ∷ [] else []
 
--- a guard has a truth value
-abbrev pub guard_of : Option Typed → Option Term
-guard_of None = None
-guard_of (Some t) = if t.1 then Some t.0 else None
+abbrev pub name_span : Option Token → Span → Span
+name_span None span =
+    record {
+      start = span.start;
+      end = min (span.start + length (codes "invariant")) (2 ^ 32 - 1);
+    }
+name_span (Some name) span = name.span
 
-abbrev pub if_of : Option Term → Option Rule → Option Rule → Option Rule
-if_of (Some guard) (Some first) (Some other) = Some (rules.If guard first other)
-if_of _ _ _ = None
+module _ (scope : Scope) (functions : List FunctionInfo) (macros : List MacroInfo) where
+  abbrev pub def_depth_refused : DefTree → List TypeRefusal
+  def_depth_refused (def.Interval name from to span) = []
+  def_depth_refused (def.Integers name first others span) = []
+  def_depth_refused (def.Function name params term span) =
+      depth_refused (term_depth functions (body_checked scope params term).term) name.span
+  def_depth_refused (def.Rule name params body span) =
+      depth_refused (rule_depth functions macros ((macro_checked scope params body).rule 0))
+      name.span
+  def_depth_refused (def.Invariant name first others term span) =
+      depth_refused (term_depth functions (checked scope term []).term) (name_span name span)
 
--- without `else` nothing is done
-abbrev pub else_of : Option (Option Rule) → Option Rule
-else_of None = Some rules.Skip
-else_of (Some rule) = rule
+  abbrev pub depths_refused : List DefTree → List TypeRefusal
+  depths_refused [] = []
+  depths_refused (d ∷ ds) = def_depth_refused d ++ depths_refused ds
 
--- one level of a rule, with the program of each part in its position
-abbrev pub rule_level : List FunctionInfo → RuleTree-F (Option Rule) (Unit {0}) → Option Rule
-rule_level functions (RuleTree-F.Skip span) = Some rules.Skip
-rule_level functions (RuleTree-F.Update name None value span) =
-    update_of (find functions (name_of name)) (term_of functions value)
-rule_level functions (RuleTree-F.Par first others span) = par_of (first ∷ others)
-rule_level functions (RuleTree-F.If guard first other span) =
-    if_of (guard_of (term_of functions guard)) first (else_of other)
-rule_level functions _ = None
+  abbrev pub start_depths_refused : List StartTree → List TypeRefusal
+  start_depths_refused [] = []
+  start_depths_refused (s ∷ ss) =
+      depth_refused (term_depth functions (body_checked scope s.params s.term).term) s.function.span
+      ++ start_depths_refused ss
 
--- no `switch` is run, so its cases are nothing
-abbrev pub case_level : RuleCaseTree-F (Option Rule) (Unit {0}) → Unit {0}
-case_level c = tt
+-- that of the main rule, of the invariants, and of the initial terms for each list of arguments
+abbrev pub text_work : List DomainInfo → List FunctionInfo → List MacroInfo → Rule → List InitInfo
+    → List Inv → ℕ
+text_work domains functions macros main inits invariants =
+    rule_work domains functions macros main
+    + sum (map (λ inv. term_work domains functions inv.term) invariants)
+    + sum (map (λ init. start_work domains functions init.function init.body) inits)
 
-unfoldable pub rule_of : List FunctionInfo → RuleTree → Option Rule
-rule_of functions = fold-RuleTree (Option Rule) (Unit {0}) (rule_level functions) case_level
+-- the most work of a program
+abbrev pub work_limit : ℕ
+work_limit = 2 ^ 24
 
--- ---- models
+abbrev pub work_refused : ℕ → Span → List TypeRefusal
+work_refused work span =
+    if nat_le work work_limit then [] else TooMuchWork (min work most_count) span ∷ []
 
--- no name is there twice
-abbrev pub differ : List (List ℕ) → Bool
-differ [] = true
-differ (name ∷ names) = not (list_any (bytes_eq name) names) && differ names
+-- what a tree is made of once its names are numbers
+pub record Numbered : Type 0 where
+  pub scope : Scope
+  pub functions : List FunctionInfo
+  pub macros : List MacroInfo
+  pub main : Rule
+  pub inits : List InitInfo
+  pub invariants : List Inv
+  pub work : ℕ
 
--- the functions and the main rule have one name space
-abbrev pub names_of : ModelTree → List FunctionInfo → List (List ℕ)
-names_of tree functions = name_of tree.rule_name ∷ map function_name functions
+abbrev pub numbered_in : Scope → List ℕ → ModelTree → Numbered
+numbered_in scope text tree =
+    let functions = functions_of scope tree in
+    let macros = macros_of scope tree in
+    let main = main_of scope tree in
+    let inits = inits_of scope tree in
+    let invariants = invariants_from text scope 1 tree.defs in
+    record {
+      scope = scope;
+      functions = functions;
+      macros = macros;
+      main = main;
+      inits = inits;
+      invariants = invariants;
+      work = text_work scope.domains functions macros main inits invariants;
+    }
 
--- the program of these parts, where its functions are few: at most 256
-abbrev pub program_if : List ℕ → (functions : List FunctionInfo) → Rule → (few : Bool)
-    → nat_le (length functions) 256 ≡ few → Option Program
-program_if name functions main true e =
-    Some (record { name = name; functions = functions; main = main; few = leb-true _ _ e })
-program_if name functions main false e = None
+abbrev pub numbered : List ℕ → ModelTree → Numbered
+numbered text tree = numbered_in (scope_of tree) text tree
 
-abbrev pub program_from : List ℕ → List FunctionInfo → Rule → Option Program
-program_from name functions main =
-    program_if name functions main (nat_le (length functions) 256) refl
+abbrev pub counts_refused : Numbered → ModelTree → List TypeRefusal
+counts_refused n tree =
+    depths_refused n.scope n.functions n.macros tree.defs
+    ++ depth_refused (rule_depth n.functions n.macros n.main) tree.rule_name.span
+    ++ start_depths_refused n.scope n.functions n.macros (starts_of tree.init)
+    ++ work_refused n.work tree.main
 
-abbrev pub main_of : ModelTree → List FunctionInfo → Option Rule
-main_of tree functions =
-    if differ (names_of tree functions) then rule_of functions tree.rule else None
+-- ---- texts
 
-abbrev pub program_with : ModelTree → List FunctionInfo → Option Program
-program_with tree functions =
-    option_and_then (program_from (name_of tree.name) functions) (main_of tree functions)
+-- All refusals of a tree, pass by pass, each pass in text order: names, domains, functions, calls,
+-- types, and what counts. Where a pass refuses nothing, the next one is looked at.
+abbrev pub refused : List ℕ → ModelTree → List TypeRefusal
+refused text tree =
+    let names = names_of tree in
+    let items = model_items tree in
+    names_refused items
+    ++ domains_refused tree.decls names items
+    ++ functions_refused tree.defs names (scope_of tree).functions tree.decls (starts_of tree.init)
+    ++ calls_refused tree
+    ++ types_refused tree
+    ++ counts_refused (numbered text tree) tree
 
--- no definitions, and no initial state
-abbrev pub is_bare : List DefTree → Option InitTree → Bool
-is_bare [] None = true
-is_bare _ _ = false
+-- the first of them
+abbrev pub first_refusal : List ℕ → ModelTree → Option TypeRefusal
+first_refusal text tree = slice_get (refused text tree) 0
 
--- The program of a model, if it is one that is run.
-abbrev pub program_of : ModelTree → Option Program
-program_of tree =
-    if is_bare tree.defs tree.init then option_and_then (program_with tree) (functions_of tree.decls)
-    else None
+-- the tree has no refusal, and this is its program
+pub record IsTyped (text : List ℕ) (tree : ModelTree) (program : Program) : Type 0 where
+  pub unrefused : refused text tree ≡ []
+  pub name : program.name ≡ text_of tree.name
+  pub domains : program.domains ≡ (numbered text tree).scope.domains
+  pub functions : program.functions ≡ (numbered text tree).functions
+  pub macros : program.macros ≡ (numbered text tree).macros
+  pub main : program.main ≡ (numbered text tree).main
+  pub inits : program.inits ≡ (numbered text tree).inits
+  pub invariants : program.invariants ≡ (numbered text tree).invariants
+  pub work : program.work ≡ (numbered text tree).work
+  pub text_kept : program.text ≡ text
