@@ -1,0 +1,9 @@
+pub mod HeaderSteps
+pub mod IntSets
+pub mod IntSteps
+pub mod Limits
+pub mod Lists
+pub mod NameSteps
+pub mod Passes
+pub mod ScopeSteps
+pub mod SetSteps

@@ -1,0 +1,7 @@
+use Rattle.std.proofs.Common.{◌∙◌}
+use Rattle.asm_names.proofs.NameSteps.{pushed_as}
+use Rattle.asm_names.proofs.listing.add.Goals as goal
+
+pub returns : goal.returns
+returns c =
+    pushed_as c.args.names.now c.push.new.self c.args.name.now c.args.named c.in_ok-from_str.field-0 c.in_ok-push.ensures.ok (c.in_ok-from_str.ensures ∙ c.text_of.ensures)

@@ -1,0 +1,4 @@
+pub mod Checking
+pub mod DomainTrees
+pub mod IndexSteps
+pub mod SameSteps
