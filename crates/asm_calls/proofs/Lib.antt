@@ -1,0 +1,13 @@
+pub mod CallLaws
+pub mod Closing
+pub mod Counted
+pub mod Nested
+pub mod OrderLaws
+pub mod Ranked
+pub mod Reaching
+pub mod RowLaws
+pub mod RowSteps
+pub mod TermParts
+pub mod TextNested
+pub mod TextRefusals
+pub mod TextSteps
