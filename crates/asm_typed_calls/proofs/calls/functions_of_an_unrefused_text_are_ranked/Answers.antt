@@ -1,0 +1,6 @@
+use Rattle.asm_typed_calls.proofs.Laws.{functions_ranked}
+use Rattle.asm_typed_calls.proofs.calls.functions_of_an_unrefused_text_are_ranked.Goals as goal
+
+-- The law as it is proved.
+pub returns : goal.returns
+returns c = functions_ranked
