@@ -1,0 +1,3 @@
+-- What contracts cite: depth and work together, level by level.
+pub mod CountLevels
+pub mod CountLaws

@@ -1,0 +1,6 @@
+-- So far they are the same.
+use Rattle.std.proofs.Common.{◌≡◌, take}
+use Rattle.asm_limits.proofs.rounds.same.Given as goal
+
+abbrev pub invariant-loop-at : goal.invariant-loop-at
+invariant-loop-at l = take l.at l.first ≡ take l.at l.second

@@ -1,0 +1,4 @@
+-- What contracts cite.
+pub mod Counted
+pub mod Rounds
+pub mod Walks
