@@ -1,7 +1,6 @@
-pub mod All
-pub mod Differ
-pub mod Find
-pub mod Functions
-pub mod Maps
-pub mod Programs
-pub mod Rules
+pub mod Few
+pub mod Shallow
+pub mod Indexes
+pub mod Infos
+pub mod Kept
+pub mod Passes

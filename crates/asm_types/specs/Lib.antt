@@ -1,2 +1,2 @@
-pub mod Checks
-pub mod Scopes
+-- What contracts cite.
+pub mod Assembled

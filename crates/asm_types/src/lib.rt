@@ -1,13 +1,12 @@
-//! Checks a tree, and numbers its names: the program of a model.
+//! Checks a text, and numbers its names: the program of a text, or the first refusal of it.
 #![tactic(auto)]
 
-mod decl;
-mod model;
-mod names;
-mod refusal;
-mod rule;
-mod scope;
-mod token;
+mod checker;
+mod functions;
+mod laws;
+mod members;
 
-pub use model::check;
-pub use refusal::TypeRefusal;
+pub use asm_program::{Limited, TypeRefusal};
+pub use asm_typed_alone::{TypedTerm, check_term};
+pub use checker::check;
+pub use laws::an_unrefused_text_has_a_program;

@@ -1,0 +1,4 @@
+pub mod CopySteps
+pub mod LimitSteps
+pub mod ListingSteps
+pub mod TermSteps

@@ -1,0 +1,4 @@
+-- What contracts cite.
+pub mod Alone
+pub mod Kept
+pub mod Listed
