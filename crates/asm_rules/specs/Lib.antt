@@ -1,0 +1,2 @@
+-- What contracts cite: outcomes of rules and of their parts.
+pub mod Outcomes
