@@ -1,11 +1,18 @@
 -- The tree and the program of a text, or what is reported of it where it has none, as functions on
 -- its bytes.
-use Rattle.std.specs.Prelude.{◌≡◌, ℕ, zero, ◌+◌, ◌<◌, ◌≤◌, nat_le, ◌==◌, true, false, not, if◌then◌else◌, List, [], ◌∷◌, length, take, count_by, Option, Some, None, Result, Ok, Err, decimal, codes}
+use Rattle.std.specs.Prelude.{◌≡◌, ℕ, zero, ◌+◌, ◌<◌, ◌≤◌, nat_le, ◌==◌, Bool, true, false, not, ◌&&◌, if◌then◌else◌, List, [], ◌∷◌, ◌++◌, length, take, count_by, Option, Some, None, Result, Ok, Err, decimal, codes}
 use Rattle.std.specs.List.{suffix_len}
+use Rattle.std.specs.Str.{bytes_eq}
+use Rattle.std.proofs.Common.{refl}
+use Rattle.std.proofs.lemmas.Bool.{leb-true, and_parts}
 use Rattle.asm_grammar.specs.Parser.{Reply, Took, Refused}
 use Rattle.asm_syntax.specs.declared.token_refusal.TokenRefusal.{TokenRefusal}
 use Rattle.asm_syntax.specs.declared.token_refusal.TokenRefusal.TheVariants.{OpenComment, OpenString, NumberTooLarge, BadByte}
 use Rattle.asm_syntax.specs.declared.token.Token.{Token}
+use Rattle.asm_syntax.specs.declared.tree.DeclTree.{DeclTree}
+use Rattle.asm_syntax.specs.declared.tree.DeclTree.TheVariants as decl
+use Rattle.asm_syntax.specs.declared.tree.DefTree.{DefTree}
+use Rattle.asm_syntax.specs.declared.tree.DefTree.TheVariants as def
 use Rattle.asm_syntax.specs.declared.tree.ModelTree.{ModelTree}
 use Rattle.asm_syntax.specs.Lexes.{Stop, End, At, Lexes}
 use Rattle.asm_syntax.specs.Marks.{text_of}
@@ -18,7 +25,14 @@ use Rattle.asm_parse_theory.specs.Models as reading
 use Rattle.asm_parse_theory.specs.Models.{first_foreign}
 use Rattle.asm_program.specs.declared.program.Program.{Program}
 use Rattle.asm_program.specs.declared.bad_text.BadText.{BadText}
-use Rattle.asm_program.specs.Typed.{program_of}
+use Rattle.asm_program.specs.declared.type_refusal.Limited.{Limited}
+use Rattle.asm_program.specs.declared.type_refusal.Limited.TheVariants as limited
+use Rattle.asm_program.specs.declared.type_refusal.TypeRefusal.{TypeRefusal}
+use Rattle.asm_program.specs.declared.type_refusal.TypeRefusal.TheVariants as type
+use Rattle.asm_program.specs.Members.{everyone_of, domains_are_few}
+use Rattle.asm_program.specs.Counts.{functions_are_counted}
+use Rattle.asm_program.specs.Nesting.{functions_are_ranked, macros_are_ranked}
+use Rattle.asm_program.specs.Typed.{Numbered, numbered, first_refusal, IsTyped}
 
 -- ---- what is reported of a refused text
 
@@ -58,17 +72,150 @@ reported_token text why at = reported_at text at (token_refusal_kind why) []
 abbrev pub reported_refusal : List ℕ → Refusal → ℕ → BadText
 reported_refusal text why at = reported_at text at (refusal_kind why) (refusal_more why)
 
--- at the first byte: nothing says where
-abbrev pub reported_unbuilt : List ℕ → BadText
-reported_unbuilt text = reported_at text 0 (codes "Unbuilt") []
+-- what there are too many of, or what is too large
+abbrev pub limited_text : Limited → List ℕ
+limited_text limited.Domains = codes "domains"
+limited_text limited.Functions = codes "functions"
+limited_text limited.Macros = codes "macros"
+limited_text limited.Invariants = codes "invariants"
+limited_text limited.Parts = codes "parts"
+limited_text limited.Members = codes "members"
+limited_text limited.Chars = codes "string"
+limited_text limited.Product = codes "product"
+limited_text limited.Powerset = codes "powerset"
+limited_text limited.Depth = codes "depth"
+
+-- want of memory says nothing about a text
+abbrev pub type_kind : TypeRefusal → List ℕ
+type_kind (type.Duplicate name span) = codes "Duplicate"
+type_kind (type.Unknown name span) = codes "Unknown"
+type_kind (type.Mismatch span) = codes "Mismatch"
+type_kind (type.Recursive name span) = codes "Recursive"
+type_kind (type.NotEnumerable span) = codes "NotEnumerable"
+type_kind (type.Missing name span) = codes "Missing"
+type_kind (type.Limit which had span) = codes "Limit"
+type_kind (type.TooMuchWork work span) = codes "TooMuchWork"
+type_kind type.NoMemory = []
+
+-- the name, what is limited and the number that there is, or the work
+abbrev pub type_more : TypeRefusal → List ℕ
+type_more (type.Duplicate name span) = name
+type_more (type.Unknown name span) = name
+type_more (type.Mismatch span) = []
+type_more (type.Recursive name span) = name
+type_more (type.NotEnumerable span) = []
+type_more (type.Missing name span) = name
+type_more (type.Limit which had span) = limited_text which ++ 32 ∷ decimal had
+type_more (type.TooMuchWork work span) = decimal work
+type_more type.NoMemory = []
+
+-- the first byte of what is refused
+abbrev pub type_at : TypeRefusal → ℕ
+type_at (type.Duplicate name span) = span.start
+type_at (type.Unknown name span) = span.start
+type_at (type.Mismatch span) = span.start
+type_at (type.Recursive name span) = span.start
+type_at (type.NotEnumerable span) = span.start
+type_at (type.Missing name span) = span.start
+type_at (type.Limit which had span) = span.start
+type_at (type.TooMuchWork work span) = span.start
+type_at type.NoMemory = 0
+
+abbrev pub reported_type : List ℕ → TypeRefusal → BadText
+reported_type text why = reported_at text (type_at why) (type_kind why) (type_more why)
+
+-- of a typed text, at the first declaration or definition that isn't run
+abbrev pub reported_unbuilt : List ℕ → ℕ → BadText
+reported_unbuilt text at = reported_at text at (codes "Unbuilt") []
+
+-- ---- what isn't run yet
+
+-- the first of two places
+abbrev pub or_later : Option ℕ → Option ℕ → Option ℕ
+or_later (Some at) later = Some at
+or_later None later = later
+
+-- where a monitored, shared or out function is declared
+abbrev pub unbuilt_decl : DeclTree → Option ℕ
+unbuilt_decl (decl.Enum name first others span) = None
+unbuilt_decl (decl.Abstract name span) = None
+unbuilt_decl (decl.Subset name kind span) = None
+unbuilt_decl (decl.Defined kind name from to span) = None
+unbuilt_decl (decl.Dynamic kind name from to span) =
+    if bytes_eq kind (codes "controlled") then None else Some span.start
+
+abbrev pub unbuilt_decls : List DeclTree → Option ℕ
+unbuilt_decls [] = None
+unbuilt_decls (d ∷ ds) = or_later (unbuilt_decl d) (unbuilt_decls ds)
+
+-- where an invariant is
+abbrev pub unbuilt_def : DefTree → Option ℕ
+unbuilt_def (def.Interval name from to span) = None
+unbuilt_def (def.Integers name first others span) = None
+unbuilt_def (def.Function name params term span) = None
+unbuilt_def (def.Rule name params body span) = None
+unbuilt_def (def.Invariant name first others term span) = Some span.start
+
+abbrev pub unbuilt_defs : List DefTree → Option ℕ
+unbuilt_defs [] = None
+unbuilt_defs (d ∷ ds) = or_later (unbuilt_def d) (unbuilt_defs ds)
+
+-- the first of these in the text
+abbrev pub unbuilt_place : ModelTree → Option ℕ
+unbuilt_place tree = or_later (unbuilt_decls tree.decls) (unbuilt_defs tree.defs)
+
+-- ---- the program of a tree
+
+-- what a program keeps of its parts: they are few, none reaches itself, and functions are counted
+abbrev pub is_kept : Numbered → Bool
+is_kept n =
+    (domains_are_few n.scope.domains
+    && (nat_le (length n.functions) 256 && nat_le (length n.macros) 256))
+    && ((functions_are_ranked n.functions && macros_are_ranked n.macros)
+    && functions_are_counted n.scope.domains n.functions)
+
+abbrev pub program_if : List ℕ → ModelTree → (n : Numbered) → (kept : Bool)
+    → is_kept n ≡ kept → Option Program
+program_if text tree n false e = None
+program_if text tree n true e =
+    let both = and_parts _ _ e in
+    let domains = and_parts _ _ both.0 in
+    let few = and_parts _ _ domains.1 in
+    let last = and_parts _ _ both.1 in
+    let ranks = and_parts _ _ last.0 in
+    Some (record {
+      name = text_of tree.name;
+      domains = n.scope.domains;
+      functions = n.functions;
+      macros = n.macros;
+      main = n.main;
+      inits = n.inits;
+      invariants = n.invariants;
+      work = n.work;
+      text = text;
+      everyone = everyone_of n.scope.domains;
+      few_domains = domains.0;
+      few = leb-true _ _ few.0;
+      few_macros = leb-true _ _ few.1;
+      every = refl;
+      ranked = ranks.0;
+      macros_ranked = ranks.1;
+      counted = last.1;
+    })
+
+-- the program of these parts, where they are few and none reaches itself
+unfoldable pub program_of : List ℕ → ModelTree → Option Program
+program_of text tree =
+    program_if text tree (numbered text tree) (is_kept (numbered text tree)) refl
 
 -- ---- which program a text has, and why it has none
 
--- the text is a typed model, and this is its program
+-- the text is a typed model, all of it is run, and this is its program
 pub record IsProgram (text : List ℕ) (program : Program) : Type 0 where
   pub tree : ModelTree
   pub model : IsModel text tree
-  pub typed : program_of tree ≡ Some program
+  pub built : unbuilt_place tree ≡ None
+  pub typed : IsTyped text tree program
 
 -- the text has no program, and this is reported of it
 pub data IsBadText (text : List ℕ) : BadText → Type 0 where
@@ -78,8 +225,11 @@ pub data IsBadText (text : List ℕ) : BadText → Type 0 where
       → IsBadText text (reported_token text why at)
   unread : {why : Refusal} {at : ℕ} → IsRefusedModel text why at
       → IsBadText text (reported_refusal text why at)
-  unbuilt : {tree : ModelTree} → IsModel text tree → program_of tree ≡ None
-      → IsBadText text (reported_unbuilt text)
+  untyped : {tree : ModelTree} {why : TypeRefusal} → IsModel text tree
+      → first_refusal text tree ≡ Some why → IsBadText text (reported_type text why)
+  unbuilt : {tree : ModelTree} {at : ℕ} → IsModel text tree
+      → first_refusal text tree ≡ None → unbuilt_place tree ≡ Some at
+      → IsBadText text (reported_unbuilt text at)
 
 -- the text has this program, or this is reported of it
 abbrev pub Means : List ℕ → Result Program BadText → Type 0
@@ -126,12 +276,25 @@ tree_of text =
 
 -- ---- programs
 
-abbrev pub built : List ℕ → Option Program → Result Program BadText
-built text None = Err (reported_unbuilt text)
-built text (Some program) = Ok program
+-- a tree of which nothing is refused has a program
+abbrev pub made : List ℕ → Option Program → Result Program BadText
+made text None = Err (reported_unbuilt text 0)
+made text (Some program) = Ok program
+
+-- unless some of it isn't run
+abbrev pub built : List ℕ → Option ℕ → Option Program → Result Program BadText
+built text (Some at) program = Err (reported_unbuilt text at)
+built text None program = made text program
+
+-- unless the tree is refused
+abbrev pub checked : List ℕ → Option TypeRefusal → Option ℕ → Option Program
+    → Result Program BadText
+checked text (Some why) place program = Err (reported_type text why)
+checked text None place program = built text place program
 
 abbrev pub program_of_tree : List ℕ → Result ModelTree BadText → Result Program BadText
-program_of_tree text (Ok tree) = built text (program_of tree)
+program_of_tree text (Ok tree) =
+    checked text (first_refusal text tree) (unbuilt_place tree) (program_of text tree)
 program_of_tree text (Err why) = Err why
 
 -- the one program of a text, or what is reported where it has none

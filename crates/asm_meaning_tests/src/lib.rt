@@ -1,9 +1,7 @@
-//! Tests of operators, programs and steps: what no clause says, worked out by hand.
+//! Tests of operators and of a whole model: what no clause says, worked out by hand.
 #![tactic(auto)]
 
 #[cfg(test)]
-mod steps;
+mod crossing;
 #[cfg(test)]
 mod tables;
-#[cfg(test)]
-mod types;
