@@ -1,5 +1,5 @@
 -- A change leaves the models outside its footprint as they were, and the models ascending by name.
-use Rattle.std.proofs.Common.{Bool, true, false, cond, ◌≡◌, ◌≢◌, ℕ, ◌+◌, List, [], ◌∷◌, fold, Ok, Err, refl, sym, subst, ◌∙◌, arith}
+use Rattle.std.proofs.Common.{Bool, true, false, cond, ◌≡◌, ◌≢◌, ℕ, ◌+◌, Option, List, [], ◌∷◌, fold, Ok, Err, refl, sym, subst, ◌∙◌, arith}
 use Rattle.std.specs.Prelude.{⊤}
 use Rattle.std.specs.List.{AllByRecursion, Contains}
 use Rattle.asm_portable.proofs.Ascending.{none_ascends, put_by-ascends}
@@ -13,7 +13,7 @@ use Rattle.asm_board.specs.Meanings.{Meanings}
 use Rattle.asm_board.specs.Refusals.{Tried, after, needs, of_model, bad_name}
 use Rattle.asm_board.specs.Slots.{Models, News, named, slot_in, at_version, put, changed, new_slot, new_slots, AscendByName}
 use Rattle.asm_board.specs.Calls.{footprint, is_change}
-use Rattle.asm_board.specs.Changes.{Change, is_right_name, program_in, stepped, not_taken, found, load, step_model, change}
+use Rattle.asm_board.specs.Changes.{Change, is_right_name, program_in, started, stepped, not_taken, found, load, step_model, change}
 use Rattle.asm_board.specs.Boards.{empty_board, slots_of_change, spoken_of, slots_at, applied, board_of}
 use Rattle.asm_board.proofs.Puts.{slot_in-put_other}
 
@@ -35,17 +35,18 @@ module _ (m : Meanings) where
   load_news models name source =
       goes_on (name ∷ []) (needs (is_right_name name) bad_name) _ (λ _.
       goes_on (name ∷ []) (not_taken m models name) _ (λ _.
-      goes_on (name ∷ []) (program_in m source) _ (λ program. (the_one name, tt))))
+      goes_on (name ∷ []) (program_in m source) _ (λ program.
+      goes_on (name ∷ []) (started m (of_model name) program) _ (λ state. (the_one name, tt)))))
 
-  step_news : (models : Models) (name : List ℕ) → NewsOf (name ∷ []) (step_model m models name)
-  step_news models name =
+  step_news : (models : Models) (name : List ℕ) (pick : Option ℕ) → NewsOf (name ∷ []) (step_model m models name pick)
+  step_news models name pick =
       goes_on (name ∷ []) (found m models name) _ (λ slot.
-      goes_on (name ∷ []) (stepped m (of_model name) slot.content.program slot.content.state) _ (λ state. (the_one name, tt)))
+      goes_on (name ∷ []) (stepped m (of_model name) pick slot.content.program slot.content.state) _ (λ state. (the_one name, tt)))
 
   change_news : (models : Models) (c : Call) → NewsOf (footprint c) (change m models c)
-  change_news models (Run source steps) = tt
+  change_news models (Run source steps pick) = tt
   change_news models (Load name source) = load_news models name source
-  change_news models (Step formula) = step_news models formula
+  change_news models (Step formula pick) = step_news models formula pick
   change_news models (State name) = tt
   change_news models ListModels = tt
 

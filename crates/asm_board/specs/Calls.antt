@@ -1,5 +1,5 @@
 -- Calls: which are changes, of which models they speak, and what they weigh.
-use Rattle.std.specs.Prelude.{ℕ, ◌+◌, ◌-◌, ◌^◌, min, Bool, true, false, List, [], ◌∷◌, sum_by}
+use Rattle.std.specs.Prelude.{ℕ, ◌+◌, ◌-◌, ◌^◌, min, Bool, true, false, Option, Some, None, List, [], ◌∷◌, sum_by}
 use Rattle.asm_portable.specs.declared.port.Port.{Port}
 use Rattle.asm_portable.specs.Ports.{text, number}
 use Rattle.asm_portable.specs.Weights.{whole_weight}
@@ -9,20 +9,25 @@ use Rattle.asm_board.specs.declared.call.Call.TheVariants.{Run, Load, Step, Stat
 -- the call may change the models
 abbrev pub is_change : Call → Bool
 is_change (Load name source) = true
-is_change (Step formula) = true
+is_change (Step formula pick) = true
 is_change _ = false
 
 -- The models of which a change speaks. A read has none.
 abbrev pub footprint : Call → List (List ℕ)
 footprint (Load name source) = name ∷ []
-footprint (Step formula) = formula ∷ []
+footprint (Step formula pick) = formula ∷ []
 footprint _ = []
+
+-- a pick is a field where there is one
+abbrev pub pick_field : Option ℕ → List Port
+pick_field None = []
+pick_field (Some pick) = number pick ∷ []
 
 -- what the fields of the request are, other than its operation
 abbrev pub present_fields : Call → List Port
-present_fields (Run source steps) = text source ∷ number steps ∷ []
+present_fields (Run source steps pick) = text source ∷ number steps ∷ pick_field pick
 present_fields (Load name source) = text name ∷ text source ∷ []
-present_fields (Step formula) = text formula ∷ []
+present_fields (Step formula pick) = text formula ∷ pick_field pick
 present_fields (State name) = text name ∷ []
 present_fields _ = []
 

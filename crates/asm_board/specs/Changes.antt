@@ -1,6 +1,6 @@
 -- What each change comes to at the models of its footprint: its refusals in their order, or its Ok
 -- tree and the new contents.
-use Rattle.std.specs.Prelude.{ℕ, Bool, false, ◌&&◌, ◌||◌, ◌==◌, nat_le, length, List, [], ◌∷◌, is_none, codes, Result, Ok, Err}
+use Rattle.std.specs.Prelude.{ℕ, Bool, false, ◌&&◌, ◌||◌, ◌==◌, nat_le, length, List, [], ◌∷◌, Option, is_none, codes, Result, Ok, Err}
 use Rattle.std.specs.List.{list_all}
 use Rattle.asm_value.specs.State.{StateMap}
 use Rattle.asm_program.specs.declared.program.Program.{Program}
@@ -10,11 +10,13 @@ use Rattle.asm_portable.specs.Ports.{text}
 use Rattle.asm_board.specs.declared.call.Call.{Call}
 use Rattle.asm_board.specs.declared.call.Call.TheVariants as call
 use Rattle.asm_board.specs.declared.board.Slot.{Slot}
+use Rattle.asm_board.specs.declared.refusal.RefusalName.{RefusalName}
+use Rattle.asm_board.specs.declared.refusal.RefusalName.TheVariants as no
 use Rattle.asm_board.specs.Meanings.{Meanings}
-use Rattle.asm_board.specs.Contents.{Contents, start, step, Stepped, Fired, Clashes}
-use Rattle.asm_board.specs.Refusals.{Tried, after, needs, is_there, Whose, of_model, bad_name, name_taken, bad_text, unknown_model}
+use Rattle.asm_board.specs.Contents.{Contents, start, step, Stepped, Reaches, Faults, Clashes, Fills}
+use Rattle.asm_board.specs.Refusals.{Tried, after, needs, is_there, Whose, of_model, bad_name, name_taken, bad_text, unknown_model, state_full}
 use Rattle.asm_board.specs.Slots.{Models, slot_in, version_in, News}
-use Rattle.asm_board.specs.Shown.{out_shown, clash_shown}
+use Rattle.asm_board.specs.Shown.{out_shown, fault_shown, clash_shown}
 
 -- an accepted change: its Ok tree, and the new contents
 pub record Accepted : Type 0 where
@@ -59,11 +61,13 @@ unless_bad (Err bad) = Err (bad_text bad)
 
 -- ---- contents
 
--- a state, or the clash for which nothing was fired
-abbrev pub state_after : Whose → Program → Stepped → Tried StateMap
-state_after whose program (Fired state) = Ok state
-state_after whose program (Clashes location first second) =
+-- the state, or why there is none; a fault is refused under this name
+abbrev pub state_after : RefusalName → Whose → Program → Stepped → Tried StateMap
+state_after name whose program (Reaches state) = Ok state
+state_after name whose program (Faults fault) = Err (fault_shown name whose program fault)
+state_after name whose program (Clashes location first second) =
     Err (clash_shown whose program location first second)
+state_after name whose program (Fills weight) = Err (state_full whose weight)
 
 abbrev pub with_state : Program → StateMap → Contents
 with_state program state = record { program = program; state = state }
@@ -73,9 +77,14 @@ module _ (m : Meanings) where
   abbrev pub program_in : List ℕ → Tried Program
   program_in source = unless_bad (m.program_of source)
 
+  -- the initial state
+  abbrev pub started : Whose → Program → Tried StateMap
+  started whose program = state_after no.InitFault whose program (start m program)
+
   -- the state after one step
-  abbrev pub stepped : Whose → Program → StateMap → Tried StateMap
-  stepped whose program state = state_after whose program (step m program state)
+  abbrev pub stepped : Whose → Option ℕ → Program → StateMap → Tried StateMap
+  stepped whose pick program state =
+      state_after no.Fault whose program (step m pick program state)
 
   -- ---- changes
 
@@ -89,20 +98,21 @@ module _ (m : Meanings) where
       after (needs (is_right_name name) bad_name) (λ _.
       after (not_taken models name) (λ _.
       after (program_in source) (λ program.
-      accepted (text (codes "loaded")) (becomes name (start program)))))
+      after (started (of_model name) program) (λ state.
+      accepted (text (codes "loaded")) (becomes name (with_state program state))))))
 
   abbrev pub found : Models → List ℕ → Tried Slot
   found models name = is_there (slot_in models name) (unknown_model name)
 
   -- one step of a model
-  abbrev pub step_model : Models → List ℕ → Change
-  step_model models name =
+  abbrev pub step_model : Models → List ℕ → Option ℕ → Change
+  step_model models name pick =
       after (found models name) (λ slot.
-      after (stepped (of_model name) slot.content.program slot.content.state) (λ state.
+      after (stepped (of_model name) pick slot.content.program slot.content.state) (λ state.
       accepted (out_shown name) (becomes name (with_state slot.content.program state))))
 
   -- what a change comes to, where the journal has room; a read changes nothing
   abbrev pub change : Models → Call → Change
   change models (call.Load name source) = load models name source
-  change models (call.Step formula) = step_model models formula
+  change models (call.Step formula pick) = step_model models formula pick
   change models _ = accepted (text []) []

@@ -20,6 +20,9 @@ name_text no.NameTaken = codes "NameTaken"
 name_text no.ModelsFull = codes "ModelsFull"
 name_text no.BadText = codes "BadText"
 name_text no.UnknownModel = codes "UnknownModel"
+name_text no.InitFault = codes "InitFault"
+name_text no.StateFull = codes "StateFull"
+name_text no.Fault = codes "Fault"
 name_text no.Clash = codes "Clash"
 name_text no.JournalFull = codes "JournalFull"
 
@@ -87,6 +90,19 @@ of_model name = record { name = name; step = [] }
 
 abbrev pub of_run : ℕ → Whose
 of_run step = record { name = []; step = field (codes "step") (number step) ∷ [] }
+
+-- the evaluation has a fault of this kind at this place of the model's text
+abbrev pub fault_at : RefusalName → Whose → (column : ℕ) → (kind : List ℕ) → (line : ℕ) → Refusal
+fault_at name whose column kind line = refusal name
+    (field (codes "column") (number column)
+    ∷ field (codes "kind") (text kind)
+    ∷ field (codes "line") (number line)
+    ∷ model_is whose.name ∷ whose.step)
+
+-- the state weighs this, which is too much
+abbrev pub state_full : Whose → ℕ → Refusal
+state_full whose weight = refusal no.StateFull
+    (model_is whose.name ∷ whose.step ++ field (codes "weight") (number weight) ∷ [])
 
 -- the step's set gives this location two values
 abbrev pub clash_at : Whose → List Port → List ℕ → List Port → Refusal

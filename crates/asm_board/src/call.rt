@@ -1,5 +1,6 @@
 //! Calls: what a client may ask for.
-ghost use Rattle.std.specs.Prelude.{◌≡◌, IfOk};
+ghost use Rattle.std.specs.Prelude.{◌≡◌, ◌≤◌, sum_by, IfOk};
+ghost use Rattle.asm_portable.specs.Weights.{whole_weight};
 ghost use Rattle.asm_board.specs.Calls as spec;
 
 use asm_value::Text;
@@ -10,15 +11,38 @@ use std::alloc::{AllocError, Global};
 #[derive(Debug, Drop)]
 pub enum Call {
     /// A read: some steps of a text that isn't kept.
-    Run { text: Text, steps: u64 },
+    Run {
+        text: Text,
+        steps: u64,
+        pick: Option<u64>,
+    },
     /// A change: a new model of a text, in its initial state.
-    Load { name: Text, text: Text },
+    Load {
+        name: Text,
+        text: Text,
+    },
     /// A change: one step of the model that the formula names.
-    Step { formula: Text },
+    Step {
+        formula: Text,
+        pick: Option<u64>,
+    },
     /// A read: what a model is.
-    State { name: Text },
+    State {
+        name: Text,
+    },
     /// A read: the models with their versions.
     Models,
+}
+
+/// What a pick weighs: 1 where it is there.
+fn picked(pick: Option<u64>) -> u64
+    ensures weight { result ≡ sum_by whole_weight (spec.pick_field pick) }
+    ensures few { result ≤ 1 }
+{
+    match pick {
+        Some(_) => 1,
+        None => 0,
+    }
 }
 
 impl Call {
@@ -38,12 +62,12 @@ impl Call {
         ensures { result ≡ spec.capped (spec.call_weight self.now) }
     {
         match self {
-            Call::Run { text, .. } => text.weight().saturating_add(2),
+            Call::Run { text, pick, .. } => text.weight().saturating_add(2 + picked(*pick)),
             Call::Load { name, text } => name
                 .weight()
                 .saturating_add(text.weight())
                 .saturating_add(1),
-            Call::Step { formula } => formula.weight().saturating_add(1),
+            Call::Step { formula, pick } => formula.weight().saturating_add(1 + picked(*pick)),
             Call::State { name } => name.weight().saturating_add(1),
             Call::Models => 1,
         }
@@ -54,16 +78,18 @@ impl Call {
         ensures { IfOk result (λ call. call ≡ self.now) }
     {
         Ok(match self {
-            Call::Run { text, steps } => Call::Run {
+            Call::Run { text, steps, pick } => Call::Run {
                 text: text.copy(alloc)?,
                 steps: *steps,
+                pick: *pick,
             },
             Call::Load { name, text } => Call::Load {
                 name: name.copy(alloc)?,
                 text: text.copy(alloc)?,
             },
-            Call::Step { formula } => Call::Step {
+            Call::Step { formula, pick } => Call::Step {
                 formula: formula.copy(alloc)?,
+                pick: *pick,
             },
             Call::State { name } => Call::State {
                 name: name.copy(alloc)?,

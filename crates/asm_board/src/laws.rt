@@ -1,5 +1,5 @@
 //! Laws of journals, steps and models, over the definitions alone: each function does nothing.
-ghost use Rattle.std.specs.Prelude.{ℕ, ◌≡◌, ◌≤◌, ◌↔◌, List, ◌++◌, map, length, option_to_list, Some, None, Ok, Err, All, IsSome};
+ghost use Rattle.std.specs.Prelude.{ℕ, ◌≡◌, ◌≤◌, ◌↔◌, List, ◌++◌, map, length, Option, option_to_list, Some, None, Ok, Err, All, IsSome};
 ghost use Rattle.std.specs.List.{Contains};
 ghost use Rattle.asm_value.specs.declared.value.Value.{Value};
 ghost use Rattle.asm_value.specs.declared.location.Location.{Location};
@@ -119,10 +119,11 @@ pub fn a_state_shows_its_defined_functions()
 
 // ---- steps
 
-/// A step that is accepted fires the consistent set that its model's main rule yields.
+/// A step that is accepted fires the consistent set that its model's main rule yields for the pick.
 pub fn an_accepted_step_fires_a_consistent_set()
-    ensures { (m : Meanings) (models : Models) (name : List ℕ) (step : Accepted) →
-        change m models (Step name) ≡ Ok step → FiresItsSet m models name step }
+    ensures { (m : Meanings) (models : Models) (name : List ℕ) (pick : Option ℕ)
+        (step : Accepted) → change m models (Step name pick) ≡ Ok step
+        → FiresItsSet m models name pick step }
 {}
 
 /// A change that is refused makes no entry, so the board stays as it is.
@@ -136,9 +137,9 @@ pub fn a_refused_change_makes_no_entry(room: u64)
 /// The entry of a step leaves its model with a consistent set fired, and each other model as it
 /// was.
 pub fn a_step_changes_its_model_alone(room: u64)
-    ensures { (m : Meanings) (board : Board) (seat : ℕ) (name : List ℕ) (entry : Entry) →
-        (answer_at m room board seat (Step name)).entry ≡ Some entry
-        → StepsAlone m board name entry }
+    ensures { (m : Meanings) (board : Board) (seat : ℕ) (name : List ℕ) (pick : Option ℕ)
+        (entry : Entry) → (answer_at m room board seat (Step name pick)).entry ≡ Some entry
+        → StepsAlone m board name pick entry }
 {
     let _ = room;
 }

@@ -30,6 +30,12 @@ pub enum RefusalName {
     BadText,
     /// No such model exists.
     UnknownModel,
+    /// The initial state has a fault.
+    InitFault,
+    /// A state weighs more than 65,536.
+    StateFull,
+    /// A step has a fault.
+    Fault,
     /// A step's update set gives one location two values.
     Clash,
     /// The journal has no room for the entry.
@@ -51,6 +57,9 @@ impl RefusalName {
             RefusalName::ModelsFull => "ModelsFull",
             RefusalName::BadText => "BadText",
             RefusalName::UnknownModel => "UnknownModel",
+            RefusalName::InitFault => "InitFault",
+            RefusalName::StateFull => "StateFull",
+            RefusalName::Fault => "Fault",
             RefusalName::Clash => "Clash",
             RefusalName::JournalFull => "JournalFull",
         }

@@ -7,12 +7,11 @@ use Rattle.asm_board.specs.declared.board.Slot.{Slot}
 use Rattle.asm_board.specs.declared.call.Call.TheVariants.{Run, Load, Step, State, Models as AllModels}
 use Rattle.asm_board.specs.declared.prepared.Prepared.{Prepared}
 use Rattle.asm_board.specs.Meanings.{Meanings}
-use Rattle.asm_board.specs.Contents.{start}
 use Rattle.asm_board.specs.Refusals.{after, needs, is_there, of_model, bad_name, name_taken, unknown_model}
 use Rattle.asm_board.specs.Replies.{tail_of}
 use Rattle.asm_board.specs.Shown.{out_shown}
 use Rattle.asm_board.specs.Slots.{Models, named, slot_in, version_or_zero, listed, only}
-use Rattle.asm_board.specs.Changes.{Change, is_right_name, program_in, stepped, accepted, becomes, with_state, load, step_model}
+use Rattle.asm_board.specs.Changes.{Change, is_right_name, program_in, started, stepped, accepted, becomes, with_state, load, step_model}
 use Rattle.asm_board.specs.Reads.{read}
 use Rattle.asm_board.specs.Boards.{body_of_change, body_of_read, slots_of_change, weight_of_change}
 use Rattle.asm_board.specs.Answers.{Stands}
@@ -40,21 +39,22 @@ load_of m name source o =
     after (needs (is_right_name name) bad_name) (λ _.
     after (needs (is_none o) (name_taken name (version_or_zero o))) (λ _.
     after (program_in m source) (λ program.
-    accepted (text (codes "loaded")) (becomes name (start program)))))
+    after (started m (of_model name) program) (λ state.
+    accepted (text (codes "loaded")) (becomes name (with_state program state))))))
 
-step_of : Meanings → List ℕ → Option Slot → Change
-step_of m name o =
+step_of : Meanings → List ℕ → Option ℕ → Option Slot → Change
+step_of m name pick o =
     after (is_there o (unknown_model name)) (λ slot.
-    after (stepped m (of_model name) slot.content.program slot.content.state) (λ state.
+    after (stepped m (of_model name) pick slot.content.program slot.content.state) (λ state.
     accepted (out_shown name) (becomes name (with_state slot.content.program state))))
 
 load_spoken : (m : Meanings) (models : Models) (name source : List ℕ) → load m models name source ≡ load m (only models (name ∷ [])) name source
 unfolding load_of
 load_spoken m models name source = ap (load_of m name source) (sym (only_one models name))
 
-step_spoken : (m : Meanings) (models : Models) (name : List ℕ) → step_model m models name ≡ step_model m (only models (name ∷ [])) name
+step_spoken : (m : Meanings) (models : Models) (name : List ℕ) (pick : Option ℕ) → step_model m models name pick ≡ step_model m (only models (name ∷ [])) name pick
 unfolding step_of
-step_spoken m models name = ap (step_of m name) (sym (only_one models name))
+step_spoken m models name pick = ap (step_of m name pick) (sym (only_one models name))
 
 -- ---- changes
 
@@ -73,10 +73,10 @@ stands_load m board name source loads p new is =
       weight = ap (λ (q : Prepared). q.weight) is ∙ ap (weight_of_change (Load name source)) spoken;
     }
 
-pub stands_step : (m : Meanings) (board : Board) (name : List ℕ) (p : Prepared)
-    → p ≡ change_made board (Step name) name false (step_model m board.slots name) → Stands m p (Step name) board
-stands_step m board name p is =
-    let spoken = step_spoken m board.slots name in
+pub stands_step : (m : Meanings) (board : Board) (name : List ℕ) (pick : Option ℕ) (p : Prepared)
+    → p ≡ change_made board (Step name pick) name false (step_model m board.slots name pick) → Stands m p (Step name pick) board
+stands_step m board name pick p is =
+    let spoken = step_spoken m board.slots name pick in
     record {
       is_call = ap (λ (q : Prepared). q.call) is;
       versions = ap (λ (q : Prepared). q.versions) is;
@@ -84,14 +84,14 @@ stands_step m board name p is =
       tail = ap (λ (q : Prepared). q.tail) is ∙ ap (λ c. tail_of (body_of_change c)) spoken;
       slots = ap (λ (q : Prepared). q.slots) is ∙ ap slots_of_change spoken;
       loads = ap (λ (q : Prepared). q.loads) is;
-      weight = ap (λ (q : Prepared). q.weight) is ∙ ap (weight_of_change (Step name)) spoken;
+      weight = ap (λ (q : Prepared). q.weight) is ∙ ap (weight_of_change (Step name pick)) spoken;
     }
 
 -- ---- reads
 
-pub stands_run : (m : Meanings) (board : Board) (source : List ℕ) (steps : ℕ) (p : Prepared)
-    → p ≡ read_made (Run source steps) (body_of_read (read m board.slots (Run source steps))) → Stands m p (Run source steps) board
-stands_run m board source steps p is = record {
+pub stands_run : (m : Meanings) (board : Board) (source : List ℕ) (steps : ℕ) (pick : Option ℕ) (p : Prepared)
+    → p ≡ read_made (Run source steps pick) (body_of_read (read m board.slots (Run source steps pick))) → Stands m p (Run source steps pick) board
+stands_run m board source steps pick p is = record {
   is_call = ap (λ (q : Prepared). q.call) is;
   versions = ap (λ (q : Prepared). q.versions) is;
   body = ap (λ (q : Prepared). q.body) is;

@@ -1,16 +1,21 @@
--- How a value, a clash and a field are shown.
+-- How a domain, a function, a step and a field are shown.
 use Rattle.std.specs.Prelude.{ℕ, List, [], ◌∷◌, Option, Some, None, codes, if◌then◌else◌}
-use Rattle.asm_value.specs.declared.value.Value.{Value}
-use Rattle.asm_value.specs.State.{is_undef}
+use Rattle.asm_value.specs.declared.domain.DomainKind.{DomainKind}
+use Rattle.asm_value.specs.Living.{is_abstract_kind}
+use Rattle.asm_portable.specs.declared.port.Port.{Port}
 use Rattle.asm_portable.specs.declared.port.Field.{Field}
 use Rattle.asm_portable.specs.Ports.{number, field, put_field}
-use Rattle.asm_portable.specs.Values.{port_of}
 use Rattle.asm_board.specs.Refusals.{Whose}
 
--- a function's value under its name among the fields, where it is defined
-abbrev pub with_shown : List ℕ → Value → List Field → List Field
-with_shown name value fields =
-    if is_undef value then fields else put_field (field name (port_of [] value)) fields
+-- an abstract domain's number of members under its name among the fields
+abbrev pub with_domain : List ℕ → DomainKind → ℕ → List Field → List Field
+with_domain name kind count fields =
+    if is_abstract_kind kind then put_field (field name (number count)) fields else fields
+
+-- what is shown of a function under its name among the fields, where it is defined
+abbrev pub with_shown : List ℕ → Option Port → List Field → List Field
+with_shown name None fields = fields
+with_shown name (Some tree) fields = put_field (field name tree) fields
 
 -- the step of a run, where a run is refused
 abbrev pub step_fields : Option ℕ → List Field

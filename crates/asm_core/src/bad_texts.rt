@@ -7,6 +7,7 @@ ghost use Rattle.asm_parse.specs.Answers.{IsModelCause, IsWithin};
 ghost use Rattle.asm_meaning.specs.Texts as spec;
 ghost use Rattle.asm_meaning.specs.Texts.{IsBadText};
 
+use crate::faults::within;
 use asm_lex::LexRefusal;
 use asm_parse::ParseRefusal;
 use asm_program::BadText;
@@ -15,7 +16,7 @@ use asm_value::Text;
 use std::alloc::{AllocError, Global};
 
 /// A refusal at a byte of the text, or at its end.
-fn reported_at(
+pub(crate) fn reported_at(
     alloc: Global,
     text: &str,
     at: u32,
@@ -35,11 +36,27 @@ fn reported_at(
     })
 }
 
-/// The refusal of what isn't run. It names no place.
-pub(crate) fn unbuilt(alloc: Global, text: &str) -> Result<BadText, AllocError>
-    ensures { IfOk result (λ bad. bad ≡ spec.reported_unbuilt text.now) }
+/// A refusal at a byte of a text that isn't too long, at its end where the text has no such byte.
+#[tactic(auto, using(crate::proofs::Reported::same_place))]
+pub(crate) fn reported_in(
+    alloc: Global,
+    text: &str,
+    at: u32,
+    kind: &str,
+    more: &str,
+) -> Result<BadText, AllocError>
+    requires { length text.now ≤ most_bytes }
+    ensures { IfOk result (λ bad. bad ≡ spec.reported_at text.now at kind.now more.now) }
 {
-    reported_at(alloc, text, 0, "Unbuilt", "")
+    reported_at(alloc, text, within(text, at), kind, more)
+}
+
+/// The refusal of what isn't run, at a byte of a text that isn't too long.
+pub(crate) fn unbuilt(alloc: Global, text: &str, at: u32) -> Result<BadText, AllocError>
+    requires { length text.now ≤ most_bytes }
+    ensures { IfOk result (λ bad. bad ≡ spec.reported_unbuilt text.now at) }
+{
+    reported_in(alloc, text, at, "Unbuilt", "")
 }
 
 /// The refusal of a text with too many bytes.

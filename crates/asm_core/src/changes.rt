@@ -6,12 +6,11 @@ ghost use Rattle.asm_core.specs.Language.{asmeta};
 
 use crate::reads::found;
 use crate::shown::out_shown;
-use crate::steps::stepped;
+use crate::steps::{started, stepped};
 use crate::stop::Stop;
 use crate::texts::program_in;
 use asm_board::{Board, Content, Refusal, Shared, is_identifier};
 use asm_portable::Port;
-use asm_state::State;
 use asm_value::Text;
 use std::alloc::Global;
 
@@ -46,17 +45,24 @@ pub fn load(alloc: Global, board: &Board, name: &Text, text: &str) -> Result<Acc
     }
     let loaded = Text::from_str(alloc, "loaded")?;
     let name = name.copy(alloc)?;
-    let program = Shared::new(alloc, program_in(alloc, text)?)?;
+    let program = program_in(alloc, text)?;
+    let state = started(alloc, name.as_str(), None, &program)?;
+    let program = Shared::new(alloc, program)?;
     Ok(Accepted {
         ok: Port::Text(loaded),
         name,
-        content: Content::new(program, State::new(alloc)),
+        content: Content::new(program, state),
     })
 }
 
 /// One step of a model.
-pub fn step_model(alloc: Global, board: &Board, name: &Text) -> Result<Accepted, Stop>
-    ensures { Comes accepted_of (spec.step_model asmeta board.now.slots name.now) result }
+pub fn step_model(
+    alloc: Global,
+    board: &Board,
+    name: &Text,
+    pick: Option<u64>,
+) -> Result<Accepted, Stop>
+    ensures { Comes accepted_of (spec.step_model asmeta board.now.slots name.now pick) result }
 {
     let slot = found(alloc, board, name)?;
     let content = slot.content.get();
@@ -65,6 +71,7 @@ pub fn step_model(alloc: Global, board: &Board, name: &Text) -> Result<Accepted,
         alloc,
         name.as_str(),
         None,
+        pick,
         content.program().get(),
         content.state(),
     )?;

@@ -10,7 +10,7 @@ use asm_board::{Refusal, RefusalName};
 use asm_portable::{Field, Port, port_of, ports_of, push_field};
 use asm_program::Program;
 use asm_updates::ClashRef;
-use asm_value::{List, Subject, Text, Value};
+use asm_value::{Domains, List, Subject, Text, Value};
 use std::alloc::{AllocError, Global};
 
 /// The name of the function of a location.
@@ -27,17 +27,26 @@ fn subject_name(alloc: Global, program: &Program, subject: Subject) -> Result<Te
 }
 
 /// The trees of two values.
-fn both_shown(alloc: Global, first: &Value, second: &Value) -> Result<List<Port>, AllocError>
-    ensures { IfOk result (λ trees. trees ≡ port_of [] first.now ∷ port_of [] second.now ∷ []) }
+fn both_shown(
+    alloc: Global,
+    domains: &Domains,
+    first: &Value,
+    second: &Value,
+) -> Result<List<Port>, AllocError>
+    ensures { IfOk result (λ trees. trees
+        ≡ port_of domains.now first.now ∷ port_of domains.now second.now ∷ []) }
 {
-    let domains = List::new(alloc);
-    let first = port_of(alloc, &domains, first)?;
-    let second = port_of(alloc, &domains, second)?;
+    let first = port_of(alloc, domains, first)?;
+    let second = port_of(alloc, domains, second)?;
     Ok(List::from_vec(vec![in alloc; first, second]?))
 }
 
 /// Puts the number of a run's step after the fields, if there is one.
-fn push_step(alloc: Global, fields: &mut List<Field>, step: Option<u64>) -> Result<(), AllocError>
+pub(crate) fn push_step(
+    alloc: Global,
+    fields: &mut List<Field>,
+    step: Option<u64>,
+) -> Result<(), AllocError>
     ensures { OnOk result (fields.new ≡ fields.old ++ step_fields step) }
 {
     match step {
@@ -79,8 +88,8 @@ pub fn clash_shown(
         ≡ spec.clash_shown (whose_by name.now step) program.now
         clash.now.location.now clash.now.first.now clash.now.second.now) }
 {
-    let args = ports_of(alloc, &List::new(alloc), clash.location.args.as_slice())?;
+    let args = ports_of(alloc, &program.domains, clash.location.args.as_slice())?;
     let function = subject_name(alloc, program, clash.location.subject)?;
-    let values = both_shown(alloc, clash.first, clash.second)?;
+    let values = both_shown(alloc, &program.domains, clash.first, clash.second)?;
     clash_at(alloc, name, step, args, function, values)
 }

@@ -4,6 +4,7 @@
 mod bad_texts;
 mod changes;
 mod clashes;
+mod faults;
 mod laws;
 mod one;
 mod preparation;
@@ -12,6 +13,7 @@ mod shown;
 mod steps;
 mod stop;
 mod texts;
+mod untyped;
 
 pub use laws::world;
 pub use one::One;

@@ -213,11 +213,12 @@ fn step_prepared(
     board: &Board,
     call: &Call,
     name: &Text,
+    pick: Option<u64>,
 ) -> Result<Prepared, AllocError>
-    requires { call.now ≡ variants.Step name.now }
+    requires { call.now ≡ variants.Step name.now pick }
     ensures { IfOk result (λ prepared. Stands asmeta prepared call.now board.now) }
 {
-    let tried = step_model(alloc, board, name);
+    let tried = step_model(alloc, board, name, pick);
     change_made(alloc, board, call, name, false, tried)
 }
 
@@ -227,12 +228,12 @@ pub fn prepare(alloc: Global, board: &Board, call: &Call) -> Result<Prepared, Al
     ensures { IfOk result (λ prepared. Stands asmeta prepared call.now board.now) }
 {
     match call {
-        Call::Run { text, steps } => {
-            let body = read_body(run(alloc, text.as_str(), *steps))?;
+        Call::Run { text, steps, pick } => {
+            let body = read_body(run(alloc, text.as_str(), *steps, *pick))?;
             read_made(alloc, call, body)
         }
         Call::Load { name, text } => load_prepared(alloc, board, call, name, text),
-        Call::Step { formula } => step_prepared(alloc, board, call, formula),
+        Call::Step { formula, pick } => step_prepared(alloc, board, call, formula, *pick),
         Call::State { name } => {
             let body = read_body(state(alloc, board, name))?;
             read_made(alloc, call, body)

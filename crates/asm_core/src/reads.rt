@@ -1,7 +1,6 @@
 //! Reads: what a client is shown of texts and models.
 ghost use Rattle.std.specs.Prelude.{◌≡◌, Ok};
 ghost use Rattle.asm_board.specs.Changes as changes;
-ghost use Rattle.asm_board.specs.Contents.{nothing_defined};
 ghost use Rattle.asm_board.specs.Reads as spec;
 ghost use Rattle.asm_board.specs.Refusals.{after};
 ghost use Rattle.asm_board.specs.Shown as show;
@@ -29,21 +28,21 @@ pub fn found<'a>(alloc: Global, board: &'a Board, name: &Text) -> Result<&'a Slo
 }
 
 /// What some steps of a program show.
-fn ran(alloc: Global, program: &Program, count: u64) -> Result<Port, Stop>
+fn ran(alloc: Global, program: &Program, count: u64, pick: Option<u64>) -> Result<Port, Stop>
     ensures { Comes (λ tree. tree)
-        (after (spec.steps_from asmeta program.now count 1 nothing_defined)
+        (after (spec.steps_of asmeta pick program.now count)
         (λ state. Ok (show.run_shown program.now count state))) result }
 {
-    let state = steps(alloc, program, count)?;
+    let state = steps(alloc, program, count, pick)?;
     Ok(run_shown(alloc, program, count, &state)?)
 }
 
 /// What some steps of a text show.
-pub fn run(alloc: Global, text: &str, count: u64) -> Result<Port, Stop>
-    ensures { Comes (λ tree. tree) (spec.run asmeta text.now count) result }
+pub fn run(alloc: Global, text: &str, count: u64, pick: Option<u64>) -> Result<Port, Stop>
+    ensures { Comes (λ tree. tree) (spec.run asmeta text.now count pick) result }
 {
     let program = program_in(alloc, text)?;
-    ran(alloc, &program, count)
+    ran(alloc, &program, count, pick)
 }
 
 /// What a model shows.

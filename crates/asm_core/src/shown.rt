@@ -1,29 +1,128 @@
 //! What a client is shown.
-ghost use Rattle.std.specs.Prelude.{◌≡◌, [], ◌∷◌, codes, IfOk, OnOk};
-ghost use Rattle.asm_portable.specs.Ports.{field, fields};
-ghost use Rattle.asm_portable.specs.Values.{port_of};
+ghost use Rattle.std.specs.Prelude.{◌≡◌, [], ◌∷◌, codes, map, length, IfOk, OnOk};
+ghost use Rattle.std.specs.Map.Iter.{deref_pair};
+ghost use Rattle.asm_portable.specs.Ports.{field, ascending};
+ghost use Rattle.asm_value.specs.Living.{is_abstract_kind, members_of_kind};
 ghost use Rattle.asm_value.specs.State.{value_at};
+ghost use Rattle.asm_state.specs.Functions.{entries_of};
 ghost use Rattle.asm_program.specs.Meaning as meaning;
 ghost use Rattle.asm_board.specs.Shown as spec;
-ghost use Rattle.asm_core.specs.Showing.{with_shown};
+ghost use Rattle.asm_core.specs.Showing.{with_domain, with_shown};
 
 use asm_board::{NamedSlot, Slot};
-use asm_portable::{Field, Port, push_field, put_field};
-use asm_program::Program;
+use asm_portable::{Field, Port, port_of, ports_of, push_field, put_field};
+use asm_program::{FunctionInfo, Program};
 use asm_state::State;
-use asm_value::{Args, List, Location, Subject, Text, Value};
+use asm_value::{Args, DomainInfo, DomainKind, Domains, List, Location, Subject, Text, Value};
 use std::alloc::{AllocError, Global};
 
-/// The tree of a value, where no domain is declared.
-fn shown(alloc: Global, value: &Value) -> Result<Port, AllocError>
-    ensures { IfOk result (λ port. port ≡ port_of [] value.now) }
+// ---- domains
+
+fn is_abstract(info: &DomainInfo) -> bool
+    ensures { result ≡ is_abstract_kind info.now.kind }
 {
-    asm_portable::port_of(alloc, &List::new(alloc), value)
+    match &info.kind {
+        DomainKind::Abstract(_) => true,
+        DomainKind::Enum(_) | DomainKind::Subset(_) => false,
+    }
 }
 
-/// The value of a function.
+/// Puts an abstract domain's number of members under its name.
+fn put_domain(
+    alloc: Global,
+    state: &State,
+    number: usize,
+    info: &DomainInfo,
+    fields: &mut Vec<Field>,
+) -> Result<(), AllocError>
+    ensures { OnOk result (fields.new.items
+        ≡ with_domain info.now.name info.now.kind
+        (length (members_of_kind state.now number info.now.kind)) fields.old.items) }
+{
+    if !is_abstract(info) {
+        return Ok(());
+    }
+    let members = state.members_of_kind(alloc, number, &info.kind)?;
+    let key = info.name.copy(alloc)?;
+    let tree = Port::from_number(members.len() as u64);
+    put_field(fields, Field { key, tree })
+}
+
+/// The abstract domains with their numbers of members, ascending by name.
+fn counted(alloc: Global, program: &Program, state: &State) -> Result<Vec<Field>, AllocError>
+    ensures { IfOk result
+        (λ fields. fields.items ≡ ascending (spec.counted state.now 0 program.now.domains)) }
+{
+    let domains = program.domains.as_slice();
+    let mut fields = Vec::new(alloc);
+    for number in (0..domains.len()).rev() {
+        put_domain(alloc, state, number, &domains[number], &mut fields)?;
+    }
+    Ok(fields)
+}
+
+/// The abstract domains, as a tree.
+fn domains_shown(alloc: Global, program: &Program, state: &State) -> Result<Port, AllocError>
+    ensures { IfOk result (λ port. port ≡ spec.domains_shown program.now state.now) }
+{
+    Ok(Port::Fields(List::from_vec(counted(alloc, program, state)?)))
+}
+
+// ---- functions
+
+/// The arguments and the value of a location.
+fn pair_shown(
+    alloc: Global,
+    domains: &Domains,
+    location: &Location,
+    value: &Value,
+) -> Result<Port, AllocError>
+    ensures { IfOk result
+        (λ port. port ≡ spec.pair_shown domains.now (location.now, value.now)) }
+{
+    let args = Port::List(ports_of(alloc, domains, location.args.as_slice())?);
+    let value = port_of(alloc, domains, value)?;
+    Ok(Port::List(List::from_vec(vec![in alloc; args, value]?)))
+}
+
+/// Each location with its value.
+fn each_pair_shown(
+    alloc: Global,
+    domains: &Domains,
+    entries: &[(&Location, &Value)],
+) -> Result<List<Port>, AllocError>
+    ensures { IfOk result
+        (λ trees. trees ≡ map (spec.pair_shown domains.now) (map deref_pair entries.now)) }
+{
+    let mut trees = List::new(alloc);
+    for entry in entries {
+        trees.push(pair_shown(alloc, domains, entry.0, entry.1)?)?;
+    }
+    Ok(trees)
+}
+
+/// The locations of a function with their values, where there are any.
+#[tactic(auto, using(crate::proofs::Pairs::some_pairs))]
+fn pairs_shown(
+    alloc: Global,
+    domains: &Domains,
+    state: &State,
+    function: u16,
+) -> Result<Option<Port>, AllocError>
+    ensures { IfOk result
+        (λ shown. shown ≡ spec.pairs_shown domains.now (entries_of function state.now)) }
+{
+    let entries = state.of_function(alloc, function)?;
+    if entries.is_empty() {
+        return Ok(None);
+    }
+    let trees = each_pair_shown(alloc, domains, entries.as_slice())?;
+    Ok(Some(Port::List(trees)))
+}
+
+/// The value of a function without arguments.
 fn value_of<'a>(alloc: Global, state: &'a State, function: u16) -> &'a Value
-    ensures { result.now ≡ value_at state.now (meaning.location_of function) }
+    ensures { result.now ≡ value_at state.now (meaning.location_of function []) }
 {
     let location = Location {
         subject: Subject::Function(function),
@@ -32,32 +131,61 @@ fn value_of<'a>(alloc: Global, state: &'a State, function: u16) -> &'a Value
     state.get(&location)
 }
 
-/// Puts a function's value under its name, where it is defined.
+/// A value that isn't undef.
+fn value_shown(alloc: Global, domains: &Domains, value: &Value) -> Result<Option<Port>, AllocError>
+    ensures { IfOk result (λ shown. shown ≡ spec.value_shown domains.now value.now) }
+{
+    if value.is_undef() {
+        return Ok(None);
+    }
+    Ok(Some(port_of(alloc, domains, value)?))
+}
+
+/// What is shown of a function, where it is defined somewhere.
+fn function_shown(
+    alloc: Global,
+    domains: &Domains,
+    state: &State,
+    function: u16,
+    info: &FunctionInfo,
+) -> Result<Option<Port>, AllocError>
+    ensures { IfOk result (λ shown. shown
+        ≡ spec.function_shown domains.now state.now function info.now.args) }
+{
+    match info.args.as_slice() {
+        [] => value_shown(alloc, domains, value_of(alloc, state, function)),
+        [_, ..] => pairs_shown(alloc, domains, state, function),
+    }
+}
+
+/// Puts what is shown of a function under its name, where it is defined.
 fn put_shown(
     alloc: Global,
     name: &Text,
-    value: &Value,
+    shown: Option<Port>,
     fields: &mut Vec<Field>,
 ) -> Result<(), AllocError>
-    ensures { OnOk result (fields.new.items ≡ with_shown name.now value.now fields.old.items) }
+    ensures { OnOk result (fields.new.items ≡ with_shown name.now shown fields.old.items) }
 {
-    if value.is_undef() {
-        return Ok(());
+    match shown {
+        Some(tree) => {
+            let key = name.copy(alloc)?;
+            put_field(fields, Field { key, tree })
+        }
+        None => Ok(()),
     }
-    let tree = shown(alloc, value)?;
-    let key = name.copy(alloc)?;
-    put_field(fields, Field { key, tree })
 }
 
-/// The defined functions with their values, ascending by name.
+/// The defined functions with what is shown of them, ascending by name.
 fn defined(alloc: Global, program: &Program, state: &State) -> Result<Vec<Field>, AllocError>
     ensures { IfOk result (λ fields. fields.items ≡ spec.functions_listed program.now state.now) }
 {
     let functions = program.functions.as_slice();
     let mut fields = Vec::new(alloc);
     for number in (0..functions.len()).rev() {
-        let value = value_of(alloc, state, number as u16);
-        put_shown(alloc, &functions[number].name, value, &mut fields)?;
+        let info = &functions[number];
+        let shown = function_shown(alloc, &program.domains, state, number as u16, info)?;
+        put_shown(alloc, &info.name, shown, &mut fields)?;
     }
     Ok(fields)
 }
@@ -69,14 +197,15 @@ fn functions_shown(alloc: Global, program: &Program, state: &State) -> Result<Po
     Ok(Port::Fields(List::from_vec(defined(alloc, program, state)?)))
 }
 
-/// The first fields of what is shown: no domains, and the defined functions.
+/// The first fields of what is shown: the domains, and the defined functions.
 fn first_fields(alloc: Global, program: &Program, state: &State) -> Result<List<Field>, AllocError>
     ensures { IfOk result (λ first. first
-        ≡ field (codes "domains") (fields [])
+        ≡ field (codes "domains") (spec.domains_shown program.now state.now)
         ∷ field (codes "functions") (spec.functions_shown program.now state.now) ∷ []) }
 {
     let mut first = List::new(alloc);
-    push_field(alloc, &mut first, "domains", Port::Fields(List::new(alloc)))?;
+    let domains = domains_shown(alloc, program, state)?;
+    push_field(alloc, &mut first, "domains", domains)?;
     let functions = functions_shown(alloc, program, state)?;
     push_field(alloc, &mut first, "functions", functions)?;
     Ok(first)

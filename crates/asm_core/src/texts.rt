@@ -10,12 +10,13 @@ ghost use Rattle.asm_core.specs.Language.{asmeta};
 
 use crate::bad_texts::{unbuilt, unread};
 use crate::stop::Stop;
+use crate::untyped::{unbuilt_place, untyped};
 use asm_board::Refusal;
 use asm_meaning::{a_bad_text_is_reported, a_text_has_its_program};
 use asm_parse::{ParseRefusal, parse_model};
 use asm_program::{BadText, Program};
 use asm_syntax::ModelTree;
-use asm_types::{TypeRefusal, check};
+use asm_types::check;
 use std::alloc::{AllocError, Global};
 
 /// The program of a text's tree, or what is reported of it.
@@ -27,10 +28,13 @@ fn meaning_of_tree(
     requires { IsModel text.now tree.now }
     ensures { IfOk result (λ found. MatchResult found (IsProgram text.now) (IsBadText text.now)) }
 {
-    match check(alloc, tree) {
-        Ok(program) => Ok(Ok(program)),
-        Err(TypeRefusal::NoMemory) => Err(AllocError),
-        Err(TypeRefusal::Untyped) => Ok(Err(unbuilt(alloc, text)?)),
+    let place = unbuilt_place(tree);
+    match check(alloc, text, tree) {
+        Ok(program) => match place {
+            None => Ok(Ok(program)),
+            Some(at) => Ok(Err(unbuilt(alloc, text, at)?)),
+        },
+        Err(why) => Ok(Err(untyped(alloc, text, &why)?)),
     }
 }
 

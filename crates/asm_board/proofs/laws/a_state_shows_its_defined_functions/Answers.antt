@@ -3,7 +3,7 @@ use Rattle.asm_board.proofs.Listed.{ascending_ascends, shown_is_defined, defined
 use Rattle.asm_board.proofs.laws.a_state_shows_its_defined_functions.Goals as goal
 
 pub returns-clause-ascend : goal.returns-clause-ascend
-returns-clause-ascend c program state = ascending_ascends (defined state 0 program.functions)
+returns-clause-ascend c program state = ascending_ascends (defined program.domains state 0 program.functions)
 
 pub returns-clause-defined : goal.returns-clause-defined
 returns-clause-defined c program state shown h = shown_is_defined program state shown h

@@ -10,6 +10,6 @@ pub returns : goal.returns
 returns c =
     let board = c.args.board.now in
     let name = c.args.name.now in
-    let made = c.change_made.ensures (step_model asmeta board.slots name) c.step_model-tried.ensures in
+    let made = c.change_made.ensures (step_model asmeta board.slots name c.args.pick) c.step_model-tried.ensures in
     if_ok c.change_made.result _ _ made (λ p is.
-    subst (λ (call : Call). Stands asmeta p call board) (sym c.requires) (stands_step asmeta board name p (rw c.requires at is)))
+    subst (λ (call : Call). Stands asmeta p call board) (sym c.requires) (stands_step asmeta board name c.args.pick p (rw c.requires at is)))
