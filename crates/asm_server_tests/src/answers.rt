@@ -35,6 +35,7 @@ fn loads_and_steps(alloc: Global, room: u64, load: &str, step: &str) -> Result<b
     let loaded = line_of(alloc, &mut one, &call)?;
     let call = Call::Step {
         formula: Text::from_str(alloc, "Q")?,
+        pick: None,
     };
     let stepped = line_of(alloc, &mut one, &call)?;
     Ok(loaded.as_slice() == load.as_bytes() && stepped.as_slice() == step.as_bytes())

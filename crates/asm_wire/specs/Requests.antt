@@ -53,6 +53,10 @@ is_pick (string s) = false
 is_pick (array ds) = false
 is_pick (object ms) = false
 
+-- the number of a pick, None where it is null or isn't there
+abbrev pub pick_in : List ℕ → Data → Option ℕ
+pick_in key request = option_and_then natural_of (get key request)
+
 -- each member is an object in which each number is a whole number of 64 bits
 abbrev pub are_objects : Members → Bool
 are_objects no_members = true
@@ -101,9 +105,8 @@ run_in request =
     after (optional is_pick (codes "pick") request) (λ _.
     after (optional is_natural (codes "since") request) (λ _.
     after (only (codes "op" ∷ codes "pick" ∷ codes "since" ∷ codes "steps" ∷ codes "text" ∷ []) request) (λ _.
-    after (without (codes "pick") request) (λ _.
     after (without (codes "since") request) (λ _.
-    Ok (call.Run text steps))))))))
+    Ok (call.Run text steps (pick_in (codes "pick") request))))))))
 
 abbrev pub load_in : Data → Tried Call
 load_in request =
@@ -120,9 +123,8 @@ step_in request =
     after (optional is_pick (codes "pick") request) (λ _.
     after (only (codes "formula" ∷ codes "inputs" ∷ codes "op" ∷ codes "pick" ∷ []) request) (λ _.
     after (without (codes "inputs") request) (λ _.
-    after (without (codes "pick") request) (λ _.
     after (needs (is_identifier formula) unbuilt) (λ _.
-    Ok (call.Step formula))))))))
+    Ok (call.Step formula (pick_in (codes "pick") request))))))))
 
 abbrev pub state_in : Data → Tried Call
 state_in request =

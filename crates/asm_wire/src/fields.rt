@@ -81,6 +81,13 @@ pub(crate) fn optional_pick(alloc: Global, key: &str, request: &Value) -> Result
     }
 }
 
+/// The number of a pick, None where it is null or isn't there.
+pub(crate) fn pick_in(key: &str, request: &Value) -> Option<u64>
+    ensures { result ≡ spec.pick_in key.now (view request.now) }
+{
+    request.get(key).and_then(Value::as_u64)
+}
+
 /// The inputs of a step, which may be there.
 pub(crate) fn optional_inputs(alloc: Global, key: &str, request: &Value) -> Result<(), WireRefusal>
     ensures { Reports (spec.optional spec.is_inputs key.now (view request.now)) result }

@@ -8,7 +8,7 @@ ghost use Rattle.asm_board.specs.declared.call.Call as calls;
 ghost use Rattle.asm_board.specs.Refusals.{Tried};
 
 use crate::fields::{
-    number_in, only, optional_inputs, optional_natural, optional_pick, string_in, without,
+    number_in, only, optional_inputs, optional_natural, optional_pick, pick_in, string_in, without,
 };
 use crate::refusal::WireRefusal;
 use crate::words::is_among;
@@ -33,10 +33,10 @@ fn run_in(alloc: Global, request: &Value) -> Result<Call, WireRefusal>
     optional_pick(alloc, "pick", request)?;
     optional_natural(alloc, "since", request)?;
     only(alloc, &["op", "pick", "since", "steps", "text"], request)?;
-    without("pick", request)?;
     without("since", request)?;
     let text = Text::from_str(alloc, text)?;
-    Ok(Call::Run { text, steps })
+    let pick = pick_in("pick", request);
+    Ok(Call::Run { text, steps, pick })
 }
 
 fn load_in(alloc: Global, request: &Value) -> Result<Call, WireRefusal>
@@ -58,12 +58,12 @@ fn step_in(alloc: Global, request: &Value) -> Result<Call, WireRefusal>
     optional_pick(alloc, "pick", request)?;
     only(alloc, &["formula", "inputs", "op", "pick"], request)?;
     without("inputs", request)?;
-    without("pick", request)?;
     if !is_identifier(formula) {
         return Err(WireRefusal::Unbuilt);
     }
     let formula = Text::from_str(alloc, formula)?;
-    Ok(Call::Step { formula })
+    let pick = pick_in("pick", request);
+    Ok(Call::Step { formula, pick })
 }
 
 fn state_in(alloc: Global, request: &Value) -> Result<Call, WireRefusal>
