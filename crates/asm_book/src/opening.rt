@@ -73,11 +73,15 @@ pub trait Opening: Ledger {
 
 impl Opening for Brand {
     ghost use Rattle.std.specs.Prelude.{[], Err};
+    ghost use Rattle.std.specs.FinMap as map;
     ghost use Rattle.asm_value.specs.UpdateSet as set;
+    ghost use Rattle.asm_program.specs.Initial.{Starts};
+    ghost use Rattle.asm_program.specs.Yields.{Yields};
 
     ghost meanings = { record {
       program_of = λ source. Err (record { kind = []; more = []; line = 0; column = 0 });
-      yields = λ program state. set.empty;
+      initial = λ program. Starts map.empty;
+      yields = λ program state pick. Yields set.empty [];
     } };
 
     ghost history = { record { number = 0; log_name = 0; cells_name = 0 } };

@@ -32,6 +32,7 @@ impl Model for Published {
     ghost use Rattle.asm_portable.specs.contracts.port.Port as port;
     ghost use Rattle.asm_value.specs.contracts.domain.Domain as domain;
     ghost use Rattle.asm_value.specs.contracts.value.Value as value;
+    ghost use Rattle.asm_program.specs.contracts.trees.Term as term;
     ghost use Rattle.asm_program.specs.contracts.trees.Rule as rule;
     ghost use Rattle.asm_value.specs.contracts.location.Location as location;
     ghost use Rattle.asm_value.specs.Location.{location_cmp};
@@ -45,6 +46,7 @@ impl Model for Published {
       port.the_row.coded,
       domain.the_row.coded,
       value.the_row.coded,
+      term.the_row.coded,
       rule.the_row.coded,
       map.code {R = location_cmp} location.the_row.coded value.the_row.coded,
     ) };

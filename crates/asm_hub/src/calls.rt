@@ -45,6 +45,7 @@ pub fn step(alloc: Global, name: &str) -> Result<Call, AllocError>
 {
     Ok(Call::Step {
         formula: Text::from_str(alloc, name)?,
+        pick: None,
     })
 }
 
