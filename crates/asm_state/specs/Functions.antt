@@ -1,5 +1,5 @@
 -- What a function has in a state.
-use Rattle.std.specs.Prelude.{ℕ, Bool, false, ◌==◌, List}
+use Rattle.std.specs.Prelude.{ℕ, Bool, false, ◌==◌, List, slice_get, unwrap_or}
 use Rattle.std.specs.List.{filter}
 use Rattle.std.specs.FinMap as finite
 use Rattle.asm_value.specs.declared.value.Value.{Value}
@@ -19,3 +19,8 @@ is_of f location = is_function f location.subject
 -- the locations of the function that have a value, ascending, each with that value
 abbrev pub entries_of : ℕ → StateMap → List (Location × Value)
 entries_of f state = filter (λ e. is_of f e.0) (finite.entries state)
+
+-- the subject is a function that is marked, by its number
+abbrev pub is_marked : List Bool → Subject → Bool
+is_marked marks (Function f) = unwrap_or (slice_get marks f) false
+is_marked marks (Domain d) = false

@@ -8,7 +8,7 @@ mod token_refusal;
 mod tree;
 
 pub use asm_base::{Boxed, List, Text};
-pub use places::{LineColumn, place};
+pub use places::{LineColumn, place, within};
 pub use token::{Span, Token, TokenKind};
 pub use token_refusal::TokenRefusal;
 pub use tree::{

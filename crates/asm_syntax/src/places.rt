@@ -32,3 +32,15 @@ pub fn place(text: &str, at: u32) -> LineColumn
     }
     LineColumn { line, column }
 }
+
+/// The byte offset, or the text's end where that comes before it. Takes no memory.
+pub fn within(text: &str, at: u32) -> u32
+    ensures length { result ≤ length text.now }
+    ensures same { take result text.now ≡ take at text.now }
+{
+    if text.len() < at as usize {
+        text.len() as u32
+    } else {
+        at
+    }
+}

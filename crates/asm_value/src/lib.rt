@@ -11,7 +11,7 @@ mod range;
 mod value;
 
 pub use args::Args;
-pub use asm_base::{Boxed, List, Text};
+pub use asm_base::{Boxed, List, Shared, Text};
 pub use domain::{Domain, DomainInfo, DomainKind, Domains, Live, fits};
 pub use laws::{
     firing_a_list_writes_its_updates_alone, firing_nothing_changes_nothing,
