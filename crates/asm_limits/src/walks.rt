@@ -14,7 +14,7 @@ use asm_program::{InitInfo, Inv, Limited, MacroInfo, Named, Term, TypeRefusal};
 use asm_scope::Scope;
 use asm_syntax::{DefTree, InitTree, Span, StartTree, Token};
 use asm_typed_models::Definitions;
-use asm_value::Boxed;
+use asm_value::{Boxed, Shared};
 
 /// The greatest depth of a definition.
 const MOST_DEPTH: u64 = 512;
@@ -102,7 +102,7 @@ fn function_counts(known: &Known, bodies: &[Option<Boxed<Term>>], function: u16)
 #[derive(Clone, Copy)]
 struct Left<'a> {
     macros: &'a [MacroInfo],
-    invariants: &'a [Inv],
+    invariants: &'a [Shared<Inv>],
     work: u64,
 }
 
@@ -116,12 +116,12 @@ fn first_macro(known: &Known, infos: &[MacroInfo]) -> Counts
     }
 }
 
-fn first_invariant(known: &Known, invariants: &[Inv]) -> Counts
+fn first_invariant(known: &Known, invariants: &[Shared<Inv>]) -> Counts
     ensures { result ≡ spec.of_first_invariant known.now.domains.now known.now.functions.now
         known.now.macros.now invariants.now }
 {
     match invariants.split_first() {
-        Some((inv, _)) => known.term(inv.term.get()),
+        Some((inv, _)) => known.term(inv.get().term.get()),
         None => NO_COUNTS,
     }
 }
@@ -135,7 +135,7 @@ fn other_macros(infos: &[MacroInfo]) -> &[MacroInfo]
     }
 }
 
-fn other_invariants(invariants: &[Inv]) -> &[Inv]
+fn other_invariants(invariants: &[Shared<Inv>]) -> &[Shared<Inv>]
     ensures { result.now ≡ spec.after_first invariants.now }
 {
     match invariants.split_first() {

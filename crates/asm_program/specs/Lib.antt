@@ -13,6 +13,7 @@ pub mod FunctionsPass
 pub mod HasType
 pub mod Heights
 pub mod Initial
+pub mod Invariants
 pub mod IsTypedRule
 pub mod Items
 pub mod MacroLaws

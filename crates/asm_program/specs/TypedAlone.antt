@@ -1,17 +1,17 @@
 -- Typing of a term alone, over what a program declares.
-use Rattle.std.specs.Prelude.{ℕ, ◌+◌, min, Option, Some, None, List, [], ◌∷◌, ◌++◌, map, codes}
+use Rattle.std.specs.Prelude.{ℕ, ◌+◌, Option, Some, None, List, [], ◌∷◌, ◌++◌, map}
 use Rattle.asm_value.specs.declared.domain.Domain.{Domain}
 use Rattle.asm_value.specs.declared.domain.DomainInfo.{DomainInfo}
 use Rattle.asm_value.specs.declared.domain.DomainKind.{DomainKind}
 use Rattle.asm_value.specs.declared.domain.DomainKind.TheVariants as kind
-use Rattle.asm_syntax.specs.declared.token.Span.{Span}
 use Rattle.asm_syntax.specs.declared.tree.TermTree.{TermTree}
 use Rattle.asm_syntax.specs.Extents.{extent}
-use Rattle.asm_typing.specs.Domains.{type_of, domain_of}
+use Rattle.asm_typing.specs.Domains.{type_of}
 use Rattle.asm_typing.specs.Fits.{fits}
 use Rattle.asm_program.specs.declared.named.Named.TheVariants as named
 use Rattle.asm_program.specs.declared.type_refusal.TypeRefusal.{TypeRefusal}
 use Rattle.asm_program.specs.declared.type_refusal.TypeRefusal.TheVariants.{Mismatch}
+use Rattle.asm_program.specs.declared.checked.CheckedTerm.{CheckedTerm}
 use Rattle.asm_program.specs.declared.program.FunctionInfo.{FunctionInfo}
 use Rattle.asm_program.specs.declared.program.Program.{Program}
 use Rattle.asm_program.specs.Counts.{term_depth, term_work}
@@ -72,3 +72,11 @@ term_refused p wanted t =
     ++ or_else c.refused (is_wanted wanted c)
     ++ depth_refused (term_depth p.functions c.term) (extent t)
     ++ work_refused (term_work p.domains p.functions c.term) (extent t)
+
+-- the tree's term with its work, and the byte of its text at which it begins
+abbrev pub checked_term : Program → TermTree → CheckedTerm
+checked_term p t = record {
+  term = (checked_alone p t).term;
+  work = term_work p.domains p.functions (checked_alone p t).term;
+  start = (extent t).start;
+}

@@ -1,8 +1,11 @@
 //! What each form of rule yields, and that it is what Börger and Stärk's Abstract State Machines
-//! (2003), chapter 2, allow. Each function does nothing.
-ghost use Rattle.std.specs.Prelude.{ℕ, Option};
+//! (2003), chapter 2, allow; and where no invariant is broken. Each function does nothing.
+ghost use Rattle.std.specs.Prelude.{◌≡◌, ◌↔◌, ℕ, List, Option, None};
+ghost use Rattle.asm_value.specs.State.{StateMap};
+ghost use Rattle.asm_program.specs.declared.program.Inv.{Inv};
 ghost use Rattle.asm_program.specs.declared.program.Program.{Program};
 ghost use Rattle.asm_program.specs.BookYields.{YieldsAreOfTheBook, StepsAreOfTheBook};
+ghost use Rattle.asm_program.specs.Invariants.{first_broken, AllHold};
 ghost use Rattle.asm_program.specs.Numbered.{StartsNumbered, StepsLeaveNumbered};
 ghost use Rattle.asm_program.specs.RuleLaws.{SkipYields, UpdateYields, UpdateYieldsAlone};
 ghost use Rattle.asm_program.specs.RuleLaws.{ParYields, ParYieldsOfParts, IfYields, ForallYields};
@@ -117,4 +120,10 @@ pub fn new_members_of_a_step_are_added()
 #[tactic(auto, using(crate::proofs::FormLaws::forms))]
 pub fn only_the_truth_value_is_true()
     ensures { OnlyTruthIsTrue }
+{}
+
+/// None of the invariants is the first that is broken exactly where all of them hold.
+pub fn none_is_broken_exactly_where_all_hold()
+    ensures { (p : Program) (state : StateMap) (invs : List Inv) →
+        (first_broken p state invs ≡ None) ↔ AllHold p state invs }
 {}

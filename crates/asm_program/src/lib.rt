@@ -2,6 +2,7 @@
 #![tactic(auto)]
 
 mod bad_text;
+mod checked;
 mod laws;
 mod named;
 mod outcome;
@@ -13,12 +14,13 @@ mod type_refusal;
 mod typing_laws;
 
 pub use bad_text::BadText;
+pub use checked::CheckedTerm;
 pub use laws::{
     a_forall_yields_the_union, a_par_has_no_order, a_par_yields_the_union, a_seq_stops_at_a_clash,
     a_seq_yields_the_overlay, a_step_leaves_members_numbered, an_if_yields_a_branch,
     an_update_yields_itself, new_members_of_a_step_are_added, new_members_of_a_step_differ,
-    only_the_truth_value_is_true, skip_is_neutral_in_a_seq, skip_yields_nothing,
-    the_initial_state_numbers_its_members, what_a_rule_yields_is_of_the_book,
+    none_is_broken_exactly_where_all_hold, only_the_truth_value_is_true, skip_is_neutral_in_a_seq,
+    skip_yields_nothing, the_initial_state_numbers_its_members, what_a_rule_yields_is_of_the_book,
     what_a_step_yields_is_of_the_book,
 };
 pub use named::Named;

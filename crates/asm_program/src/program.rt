@@ -7,7 +7,7 @@ ghost use Rattle.asm_program.specs.Nesting.{functions_are_ranked, macros_are_ran
 
 use crate::outcome::Span;
 use crate::trees::{Rule, Term};
-use asm_value::{Boxed, Domain, Domains, List, Live, Text};
+use asm_value::{Boxed, Domain, Domains, List, Live, Shared, Text};
 
 /// What a function is: what sets its values, and who sees them.
 #[derive(Clone, Copy, Debug, PartialEq, Eq)]
@@ -94,7 +94,7 @@ pub struct Program {
     /// In text order.
     pub inits: List<InitInfo>,
     /// In text order.
-    pub invariants: List<Inv>,
+    pub invariants: List<Shared<Inv>>,
     /// At most 2^24: the nodes that a step looks at, and those of the start.
     pub work: u64,
     /// The text that was checked.

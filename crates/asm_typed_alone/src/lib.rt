@@ -8,4 +8,5 @@ mod scope;
 mod terms;
 
 pub use copies::{all_copied, copied};
+pub use limits::work_of;
 pub use terms::{TypedTerm, check_term};

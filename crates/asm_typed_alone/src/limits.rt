@@ -53,6 +53,16 @@ fn counts_in(alloc: Global, program: &Program, term: &Term) -> Result<Counts, Al
     Ok(term_counts(&program.domains, functions.as_slice(), term))
 }
 
+/// The work of a term over what the program declares: the nodes that its evaluation looks at, at
+/// most, and 2^32 where it is more. `AllocError` is want of memory.
+pub fn work_of(alloc: Global, program: &Program, term: &Term) -> Result<u64, AllocError>
+    ensures { IfOk result (λ work. work
+        ≡ min (term_work program.now.domains program.now.functions term.now) (2 ^ 32)) }
+{
+    let counts = counts_in(alloc, program, term)?;
+    Ok(counts.work)
+}
+
 /// A depth that is allowed.
 #[tactic(auto, using(crate::proofs::LimitSteps::capped))]
 fn depth_checked(depth: u64, place: Span) -> Result<(), TypeRefusal>

@@ -1,6 +1,6 @@
 //! What a text defines, once its names are numbers.
 use asm_program::{InitInfo, Inv, MacroInfo, Rule, Term};
-use asm_value::{Boxed, List};
+use asm_value::{Boxed, List, Shared};
 
 /// What a text defines, once its names are numbers.
 #[derive(Drop)]
@@ -14,5 +14,5 @@ pub struct Definitions {
     /// The initial terms, in text order.
     pub inits: List<InitInfo>,
     /// In text order.
-    pub invariants: List<Inv>,
+    pub invariants: List<Shared<Inv>>,
 }

@@ -10,7 +10,7 @@ use crate::invariants::{invariant_def, subjects};
 use asm_program::{Inv, MacroInfo, Term, TypeRefusal};
 use asm_scope::{Header, Scope};
 use asm_syntax::{DefTree, ParamsTree, RuleTree, TermTree, Token};
-use asm_value::{Boxed, List};
+use asm_value::{Boxed, List, Shared};
 use std::alloc::{AllocError, Global};
 
 /// The sum of two counts. Where it has no place in a machine word, so has no text, and want of memory
@@ -31,7 +31,7 @@ pub(crate) struct Gathered {
     /// The terms of functions, by the functions' numbers; None for those without.
     pub bodies: Vec<Option<Boxed<Term>>>,
     pub macros: List<MacroInfo>,
-    pub invariants: List<Inv>,
+    pub invariants: List<Shared<Inv>>,
     pub chooses: usize,
 }
 

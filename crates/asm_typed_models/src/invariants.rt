@@ -11,7 +11,7 @@ use asm_program::{Inv, Named, TypeRefusal};
 use asm_scope::Scope;
 use asm_syntax::{Span, TermTree, Token};
 use asm_typed::{Typed, Variables, typed_at, unknown};
-use asm_value::Text;
+use asm_value::{Shared, Text};
 use std::alloc::{AllocError, Global};
 
 // ---- what an invariant is about
@@ -129,11 +129,12 @@ pub(crate) fn invariant_def(
     number: usize,
     name: &Option<Token>,
     term: &TermTree,
-) -> Result<Inv, TypeRefusal>
+) -> Result<Shared<Inv>, TypeRefusal>
     ensures { Gives result (forms.invariant_refused (checked scope.now term.now []))
         (λ i. i ≡ forms.invariant_of text.now name.now (checked scope.now term.now []) number) }
 {
     let typed = invariant_term(alloc, scope, term)?;
     let name = invariant_name(alloc, number, name)?;
-    Ok(named_invariant(alloc, text, name, typed)?)
+    let inv = named_invariant(alloc, text, name, typed)?;
+    Ok(Shared::new(alloc, inv)?)
 }

@@ -7,6 +7,6 @@ mod laws;
 mod members;
 
 pub use asm_program::{Limited, TypeRefusal};
-pub use asm_typed_alone::{TypedTerm, check_term};
+pub use asm_typed_alone::{TypedTerm, check_term, work_of};
 pub use checker::check;
 pub use laws::an_unrefused_text_has_a_program;
