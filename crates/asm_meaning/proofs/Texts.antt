@@ -18,22 +18,22 @@ use Rattle.asm_program.specs.declared.program.Program.{Program}
 use Rattle.asm_program.specs.declared.bad_text.BadText.{BadText}
 use Rattle.asm_program.specs.declared.type_refusal.TypeRefusal.{TypeRefusal}
 use Rattle.asm_program.specs.Typed.{refused, first_refusal}
-use Rattle.asm_meaning.specs.Texts.{reported_refusal, reported_long, reported_type, reported_unbuilt, unbuilt_place, program_of, tree_replied, tree_read, tree_lexed, tree_within, tree_of, IsProgram, IsBadText, Means, HasOneMeaning, too_long, unlexed, unread, untyped, unbuilt, made, built, checked, program_of_tree, meaning_of_text}
+use Rattle.asm_meaning.specs.Texts.{reported_refusal, reported_long, reported_type, program_of, tree_replied, tree_read, tree_lexed, tree_within, tree_of, IsProgram, IsBadText, Means, HasOneMeaning, too_long, unlexed, unread, untyped, made, checked, program_of_tree, meaning_of_text}
 use Rattle.asm_types.proofs.Kept.{has_program}
 use Rattle.asm_meaning.proofs.Programs.{program_is_typed, typed_is_program}
 
 -- ---- limits
 
-is_within : (a b : ℕ) → nat_le a b ≡ true → a ≤ b
+pub is_within : (a b : ℕ) → nat_le a b ≡ true → a ≤ b
 is_within a b h = grind (arith, nat_tests)
 
-is_above : (a b : ℕ) → nat_le a b ≡ false → b < a
+pub is_above : (a b : ℕ) → nat_le a b ≡ false → b < a
 is_above a b h = grind (arith, nat_tests)
 
-within_is : (a b : ℕ) → a ≤ b → nat_le a b ≡ true
+pub within_is : (a b : ℕ) → a ≤ b → nat_le a b ≡ true
 within_is a b h = grind (arith, nat_tests)
 
-above_is : (a b : ℕ) → b < a → nat_le a b ≡ false
+pub above_is : (a b : ℕ) → b < a → nat_le a b ≡ false
 above_is a b h = grind (arith, nat_tests)
 
 -- ---- the tree of a list of tokens
@@ -119,23 +119,18 @@ no_first : (rs : List TypeRefusal) → slice_get rs 0 ≡ None → rs ≡ []
 no_first [] e = refl
 no_first (r ∷ rs) e = absurd (cc (e))
 
-made_means : (text : List ℕ) (tree : ModelTree) → IsModel text tree → first_refusal text tree ≡ None → unbuilt_place tree ≡ None
+made_means : (text : List ℕ) (tree : ModelTree) → IsModel text tree → first_refusal text tree ≡ None
     → (found : Option Program) → program_of text tree ≡ found → Means text (made text found)
-made_means text tree m unrefused place None e =
+made_means text tree m unrefused None e =
     let it = has_program text tree (no_first (refused text tree) unrefused) in
     absurd (cc (sym e ∙ typed_is_program text tree it.0 it.1))
-made_means text tree m unrefused place (Some program) e =
-    record { tree = tree; model = m; built = place; typed = program_is_typed text tree program (no_first (refused text tree) unrefused) e }
-
-built_means : (text : List ℕ) (tree : ModelTree) → IsModel text tree → first_refusal text tree ≡ None
-    → (place : Option ℕ) → unbuilt_place tree ≡ place → Means text (built text place (program_of text tree))
-built_means text tree m unrefused (Some at) e = unbuilt m unrefused e
-built_means text tree m unrefused None e = made_means text tree m unrefused e (program_of text tree) refl
+made_means text tree m unrefused (Some program) e =
+    record { tree = tree; model = m; typed = program_is_typed text tree program (no_first (refused text tree) unrefused) e }
 
 checked_means : (text : List ℕ) (tree : ModelTree) → IsModel text tree → (why : Option TypeRefusal) → first_refusal text tree ≡ why
-    → Means text (checked text why (unbuilt_place tree) (program_of text tree))
+    → Means text (checked text why (program_of text tree))
 checked_means text tree m (Some why) e = untyped m e
-checked_means text tree m None e = built_means text tree m e (unbuilt_place tree) refl
+checked_means text tree m None e = made_means text tree m e (program_of text tree) refl
 
 tree_means : (text : List ℕ) (r : Result ModelTree BadText) → Answers text r → Means text (program_of_tree text r)
 tree_means text (Ok tree) h = checked_means text tree h (first_refusal text tree) refl
@@ -155,7 +150,7 @@ pub program_complete : (text : List ℕ) (program : Program) → IsProgram text 
 unfolding meaning_of_text
 program_complete text program p =
     ap (program_of_tree text) (tree_complete text p.tree p.model)
-    ∙ (λ i. checked text (first_none text p.tree p.typed.unrefused i) (p.built i) (typed_is_program text p.tree program p.typed i))
+    ∙ (λ i. checked text (first_none text p.tree p.typed.unrefused i) (typed_is_program text p.tree program p.typed i))
 
 -- what a text means whose tree is reported
 reported_is : (text : List ℕ) (why : BadText) → tree_of text ≡ Err why → meaning_of_text text ≡ Err why
@@ -163,15 +158,12 @@ unfolding meaning_of_text
 reported_is text why e = ap (program_of_tree text) e
 
 -- what a text means that has this tree
-tree_is : (text : List ℕ) (tree : ModelTree) → IsModel text tree → meaning_of_text text ≡ checked text (first_refusal text tree) (unbuilt_place tree) (program_of text tree)
+tree_is : (text : List ℕ) (tree : ModelTree) → IsModel text tree → meaning_of_text text ≡ checked text (first_refusal text tree) (program_of text tree)
 unfolding meaning_of_text
 tree_is text tree m = ap (program_of_tree text) (tree_complete text tree m)
 
 untyped_is : (text : List ℕ) (tree : ModelTree) (why : TypeRefusal) → IsModel text tree → first_refusal text tree ≡ Some why → meaning_of_text text ≡ Err (reported_type text why)
-untyped_is text tree why m e = tree_is text tree m ∙ ap (λ first. checked text first (unbuilt_place tree) (program_of text tree)) e
-
-unbuilt_is : (text : List ℕ) (tree : ModelTree) (at : ℕ) → IsModel text tree → first_refusal text tree ≡ None → unbuilt_place tree ≡ Some at → meaning_of_text text ≡ Err (reported_unbuilt text at)
-unbuilt_is text tree at m e place = tree_is text tree m ∙ (λ i. checked text (e i) (place i) (program_of text tree))
+untyped_is text tree why m e = tree_is text tree m ∙ ap (λ first. checked text first (program_of text tree)) e
 
 long_is : (text : List ℕ) → most_bytes < length text → tree_of text ≡ Err (reported_long text)
 unfolding tree_of
@@ -188,7 +180,6 @@ bad_complete text why (too_long long) = reported_is text why (long_is text long)
 bad_complete text why (unlexed {tokens = tokens} {why = refusal} {at = at} short l) = reported_is text why (lexed_is text tokens (At refusal at) l short)
 bad_complete text reported (unread {why = why} {at = at} m) = reported_is text reported (unread_is text why at m)
 bad_complete text reported (untyped {tree = tree} {why = why} m e) = untyped_is text tree why m e
-bad_complete text why (unbuilt {tree = tree} {at = at} m e place) = unbuilt_is text tree at m e place
 
 -- ---- exactly one
 

@@ -2,17 +2,12 @@
 -- its bytes.
 use Rattle.std.specs.Prelude.{◌≡◌, ℕ, zero, ◌+◌, ◌<◌, ◌≤◌, nat_le, ◌==◌, Bool, true, false, not, ◌&&◌, if◌then◌else◌, List, [], ◌∷◌, ◌++◌, length, take, count_by, Option, Some, None, Result, Ok, Err, decimal, codes}
 use Rattle.std.specs.List.{suffix_len}
-use Rattle.std.specs.Str.{bytes_eq}
 use Rattle.std.proofs.Common.{refl}
 use Rattle.std.proofs.lemmas.Bool.{leb-true, and_parts}
 use Rattle.asm_grammar.specs.Parser.{Reply, Took, Refused}
 use Rattle.asm_syntax.specs.declared.token_refusal.TokenRefusal.{TokenRefusal}
 use Rattle.asm_syntax.specs.declared.token_refusal.TokenRefusal.TheVariants.{OpenComment, OpenString, NumberTooLarge, BadByte}
 use Rattle.asm_syntax.specs.declared.token.Token.{Token}
-use Rattle.asm_syntax.specs.declared.tree.DeclTree.{DeclTree}
-use Rattle.asm_syntax.specs.declared.tree.DeclTree.TheVariants as decl
-use Rattle.asm_syntax.specs.declared.tree.DefTree.{DefTree}
-use Rattle.asm_syntax.specs.declared.tree.DefTree.TheVariants as def
 use Rattle.asm_syntax.specs.declared.tree.ModelTree.{ModelTree}
 use Rattle.asm_syntax.specs.Lexes.{Stop, End, At, Lexes}
 use Rattle.asm_syntax.specs.Marks.{text_of}
@@ -124,46 +119,6 @@ type_at type.NoMemory = 0
 abbrev pub reported_type : List ℕ → TypeRefusal → BadText
 reported_type text why = reported_at text (type_at why) (type_kind why) (type_more why)
 
--- of a typed text, at the first declaration or definition that isn't run
-abbrev pub reported_unbuilt : List ℕ → ℕ → BadText
-reported_unbuilt text at = reported_at text at (codes "Unbuilt") []
-
--- ---- what isn't run yet
-
--- the first of two places
-abbrev pub or_later : Option ℕ → Option ℕ → Option ℕ
-or_later (Some at) later = Some at
-or_later None later = later
-
--- where a monitored, shared or out function is declared
-abbrev pub unbuilt_decl : DeclTree → Option ℕ
-unbuilt_decl (decl.Enum name first others span) = None
-unbuilt_decl (decl.Abstract name span) = None
-unbuilt_decl (decl.Subset name kind span) = None
-unbuilt_decl (decl.Defined kind name from to span) = None
-unbuilt_decl (decl.Dynamic kind name from to span) =
-    if bytes_eq kind (codes "controlled") then None else Some span.start
-
-abbrev pub unbuilt_decls : List DeclTree → Option ℕ
-unbuilt_decls [] = None
-unbuilt_decls (d ∷ ds) = or_later (unbuilt_decl d) (unbuilt_decls ds)
-
--- where an invariant is
-abbrev pub unbuilt_def : DefTree → Option ℕ
-unbuilt_def (def.Interval name from to span) = None
-unbuilt_def (def.Integers name first others span) = None
-unbuilt_def (def.Function name params term span) = None
-unbuilt_def (def.Rule name params body span) = None
-unbuilt_def (def.Invariant name first others term span) = Some span.start
-
-abbrev pub unbuilt_defs : List DefTree → Option ℕ
-unbuilt_defs [] = None
-unbuilt_defs (d ∷ ds) = or_later (unbuilt_def d) (unbuilt_defs ds)
-
--- the first of these in the text
-abbrev pub unbuilt_place : ModelTree → Option ℕ
-unbuilt_place tree = or_later (unbuilt_decls tree.decls) (unbuilt_defs tree.defs)
-
 -- ---- the program of a tree
 
 -- what a program keeps of its parts: they are few, none reaches itself, and functions are counted
@@ -210,11 +165,10 @@ program_of text tree =
 
 -- ---- which program a text has, and why it has none
 
--- the text is a typed model, all of it is run, and this is its program
+-- the text is a typed model, and this is its program
 pub record IsProgram (text : List ℕ) (program : Program) : Type 0 where
   pub tree : ModelTree
   pub model : IsModel text tree
-  pub built : unbuilt_place tree ≡ None
   pub typed : IsTyped text tree program
 
 -- the text has no program, and this is reported of it
@@ -227,9 +181,6 @@ pub data IsBadText (text : List ℕ) : BadText → Type 0 where
       → IsBadText text (reported_refusal text why at)
   untyped : {tree : ModelTree} {why : TypeRefusal} → IsModel text tree
       → first_refusal text tree ≡ Some why → IsBadText text (reported_type text why)
-  unbuilt : {tree : ModelTree} {at : ℕ} → IsModel text tree
-      → first_refusal text tree ≡ None → unbuilt_place tree ≡ Some at
-      → IsBadText text (reported_unbuilt text at)
 
 -- the text has this program, or this is reported of it
 abbrev pub Means : List ℕ → Result Program BadText → Type 0
@@ -278,23 +229,17 @@ tree_of text =
 
 -- a tree of which nothing is refused has a program
 abbrev pub made : List ℕ → Option Program → Result Program BadText
-made text None = Err (reported_unbuilt text 0)
+made text None = Err (reported_at text 0 [] [])
 made text (Some program) = Ok program
 
--- unless some of it isn't run
-abbrev pub built : List ℕ → Option ℕ → Option Program → Result Program BadText
-built text (Some at) program = Err (reported_unbuilt text at)
-built text None program = made text program
-
 -- unless the tree is refused
-abbrev pub checked : List ℕ → Option TypeRefusal → Option ℕ → Option Program
-    → Result Program BadText
-checked text (Some why) place program = Err (reported_type text why)
-checked text None place program = built text place program
+abbrev pub checked : List ℕ → Option TypeRefusal → Option Program → Result Program BadText
+checked text (Some why) program = Err (reported_type text why)
+checked text None program = made text program
 
 abbrev pub program_of_tree : List ℕ → Result ModelTree BadText → Result Program BadText
 program_of_tree text (Ok tree) =
-    checked text (first_refusal text tree) (unbuilt_place tree) (program_of text tree)
+    checked text (first_refusal text tree) (program_of text tree)
 program_of_tree text (Err why) = Err why
 
 -- the one program of a text, or what is reported where it has none
