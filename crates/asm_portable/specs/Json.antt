@@ -8,6 +8,7 @@ use Rattle.serde_json.specs.View.{items_of}
 use Rattle.serde_json.specs.Written.{compact_text}
 use Rattle.asm_portable.specs.declared.port.Port.{Port}
 use Rattle.asm_portable.specs.declared.port.Field.{Field}
+use Rattle.asm_portable.specs.declared.port.Port.TheVariants as ports
 use Rattle.asm_portable.specs.declared.port.Port.TheOpen.{Port-F}
 use Rattle.asm_portable.specs.declared.port.Port.TheFolds.{fold-Port}
 
@@ -45,3 +46,29 @@ field_data f = (f.key, data_of f.tree)
 -- The compact text of a tree, as `serde_json` writes it.
 abbrev pub json_text : Port → List ℕ
 json_text tree = compact_text (data_of tree)
+
+-- ---- the tree of JSON
+
+-- a whole number of 64 bits; there is no tree for any other, and 0 stands in its place
+abbrev pub number_of : json.Num → ℤ
+number_of (json.unsigned n) = pos n
+number_of (json.negative n) = n
+number_of (json.float f) = pos 0
+
+-- the tree of a JSON value whose numbers are all whole
+abbrev mutual
+  pub tree_of : Data → Port
+  tree_of json.null = ports.Null
+  tree_of (json.boolean b) = ports.Bool b
+  tree_of (json.number n) = ports.Int (number_of n)
+  tree_of (json.string bytes) = ports.Text bytes
+  tree_of (json.array items) = ports.List (trees_of items)
+  tree_of (json.object members) = ports.Fields (members_of members)
+
+  pub trees_of : json.Items → List Port
+  trees_of json.no_items = []
+  trees_of (json.item d ds) = tree_of d ∷ trees_of ds
+
+  pub members_of : Members → List Field
+  members_of json.no_members = []
+  members_of (json.member key d ms) = record { key = key; tree = tree_of d } ∷ members_of ms

@@ -3,3 +3,5 @@ pub mod Ports
 pub mod Json
 pub mod Values
 pub mod Weights
+pub mod Reading
+pub mod Reads

@@ -1,11 +1,12 @@
-//! The JSON of trees.
+//! The JSON of trees, and trees of JSON.
 ghost use Rattle.std.specs.Prelude.{◌≡◌, map, IfOk};
 ghost use Rattle.serde_json.specs.Data.{no_members};
-ghost use Rattle.serde_json.specs.View.{view, members_view};
+ghost use Rattle.serde_json.specs.View.{view, items_view, members_view};
+ghost use Rattle.asm_portable.specs.Json as spec;
 ghost use Rattle.asm_portable.specs.Json.{data_of, field_data, integer_data, json_text, put_all};
 
-use crate::port::{Field, Port};
-use asm_value::Text;
+use crate::port::{Field, Port, push_field};
+use asm_value::{List, Text};
 use serde_json::{Map, Value};
 use std::alloc::{AllocError, Global};
 
@@ -70,4 +71,46 @@ fn members_json(alloc: Global, fields: &[Field]) -> Result<Map<String, Value>, A
         serde_json::put(&mut members, alloc, field.key.as_str(), member)?;
     }
     Ok(members)
+}
+
+/// The tree of a JSON value in which each number is a whole one of 64 bits; 0 stands in place of
+/// any other number.
+#[cycle(tree)]
+#[tactic(auto, using(crate::proofs::TreeLaws::data_steps))]
+pub fn tree_of(alloc: Global, value: &Value) -> Result<Port, AllocError>
+    ensures { IfOk result (λ port. port ≡ spec.tree_of (view value.now)) }
+{
+    match value {
+        Value::Null => Ok(Port::Null),
+        Value::Bool(truth) => Ok(Port::Bool(*truth)),
+        Value::Number(number) => Ok(Port::Int(number.as_i128().unwrap_or(0))),
+        Value::String(text) => Ok(Port::Text(Text::from_str(alloc, text.as_str())?)),
+        Value::Array(items) => Ok(Port::List(trees_of(alloc, items)?)),
+        Value::Object(members) => Ok(Port::Fields(members_of(alloc, members)?)),
+    }
+}
+
+#[cycle(tree)]
+#[tactic(auto, using(crate::proofs::TreeLaws::data_steps))]
+fn trees_of(alloc: Global, items: &[Value]) -> Result<List<Port>, AllocError>
+    ensures { IfOk result (λ trees. trees ≡ spec.trees_of (items_view items.now)) }
+{
+    let mut trees = List::new(alloc);
+    for item in items {
+        trees.push(tree_of(alloc, item)?)?;
+    }
+    Ok(trees)
+}
+
+#[cycle(tree)]
+#[tactic(auto, using(crate::proofs::TreeLaws::data_steps))]
+fn members_of(alloc: Global, members: &Map<String, Value>) -> Result<List<Field>, AllocError>
+    ensures { IfOk result (λ fields. fields ≡ spec.members_of (members_view members.now.entries)) }
+{
+    let mut fields = List::new(alloc);
+    for (key, member) in members.iter() {
+        let tree = tree_of(alloc, member)?;
+        push_field(alloc, &mut fields, key.as_str(), tree)?;
+    }
+    Ok(fields)
 }

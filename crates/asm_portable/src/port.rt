@@ -1,5 +1,5 @@
 //! Portable trees.
-ghost use Rattle.std.specs.Prelude.{◌≡◌, ◌<◌, ◌≤◌, [], ◌∷◌, ◌++◌, length, IfOk, OnOk, OnErr, IsTrue, insert, slice_set, if◌then◌else◌};
+ghost use Rattle.std.specs.Prelude.{◌≡◌, ◌<◌, ◌≤◌, [], ◌∷◌, ◌++◌, length, IfOk, OnOk, OnErr, IsTrue, insert, slice_set, option_map, if◌then◌else◌};
 ghost use Rattle.asm_portable.specs.Ports as spec;
 ghost use Rattle.asm_portable.specs.declared.port.Field.{Field as Fields};
 
@@ -41,6 +41,50 @@ impl Port {
         ensures { result ≡ spec.number number }
     {
         Port::Int(i128::from(number))
+    }
+
+    /// Its bytes where it is a text. Takes no memory.
+    #[tactic(auto, using(crate::proofs::PortLaws::tree_steps))]
+    pub fn as_text(&self) -> Option<&str>
+        ensures { option_map (λ text. text.now) result ≡ spec.as_text self.now }
+    {
+        match self {
+            Port::Text(text) => Some(text.as_str()),
+            Port::Null | Port::Bool(_) | Port::Int(_) | Port::List(_) | Port::Fields(_) => None,
+        }
+    }
+
+    /// Its fields, none where it is no object. Takes no memory.
+    #[tactic(auto, using(crate::proofs::PortLaws::tree_steps))]
+    pub fn fields(&self) -> &[Field]
+        ensures { result.now ≡ spec.fields_of self.now }
+    {
+        match self {
+            Port::Fields(fields) => fields.as_slice(),
+            Port::Null | Port::Bool(_) | Port::Int(_) | Port::Text(_) | Port::List(_) => &[],
+        }
+    }
+
+    /// Its items where it is a list. Takes no memory.
+    #[tactic(auto, using(crate::proofs::PortLaws::tree_steps))]
+    pub fn items(&self) -> Option<&[Port]>
+        ensures { option_map (λ items. items.now) result ≡ spec.as_list self.now }
+    {
+        match self {
+            Port::List(trees) => Some(trees.as_slice()),
+            Port::Null | Port::Bool(_) | Port::Int(_) | Port::Text(_) | Port::Fields(_) => None,
+        }
+    }
+
+    /// Whether it stands for undef. Takes no memory.
+    #[tactic(auto, using(crate::proofs::PortLaws::tree_steps))]
+    pub fn is_null(&self) -> bool
+        ensures { result ≡ spec.is_null self.now }
+    {
+        match self {
+            Port::Null => true,
+            Port::Bool(_) | Port::Int(_) | Port::Text(_) | Port::List(_) | Port::Fields(_) => false,
+        }
     }
 
     /// An equal tree.

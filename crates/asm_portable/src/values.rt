@@ -26,7 +26,7 @@ fn numbered(alloc: Global, domain: &Text, index: u16) -> Result<Text, AllocError
     Ok(name)
 }
 
-fn member_name(
+pub(crate) fn member_name(
     alloc: Global,
     domains: &Domains,
     domain: u16,
