@@ -1,11 +1,10 @@
 -- An accepted step fires the consistent set of its model, and a refused change makes no entry.
-use Rattle.std.proofs.Common.{Bool, true, false, cond, nat_le, if◌then◌else◌, ◌&&◌, ◌≡◌, ℕ, ◌+◌, ◌≤◌, List, length, Some, None, Option, refl, sym, ap, ◌∙◌}
-use Rattle.std.specs.Prelude.{Ok, Err}
-use Rattle.std.proofs.lemmas.Bool.{leb-true}
+use Rattle.std.proofs.Common.{Bool, true, false, cond, nat_le, ◌&&◌, ◌≡◌, ℕ, ◌+◌, List, [], ◌∷◌, length, Some, None, Option, Ok, Err, IfOk, refl, sym, ap, ◌∙◌}
 use Rattle.asm_value.specs.declared.location.Update.{Update}
-use Rattle.asm_value.specs.State.{IsConsistent, fire, state_weight}
 use Rattle.asm_value.specs.UpdateSet.{UpdateSet, items}
 use Rattle.asm_program.specs.Yields.{Yielded, Yields, Stops}
+use Rattle.asm_portable.specs.declared.port.Port.{Port}
+use Rattle.asm_portable.specs.Ports.{fields_of}
 use Rattle.asm_board.specs.declared.board.Board.{Board}
 use Rattle.asm_board.specs.declared.board.Slot.{Slot}
 use Rattle.asm_board.specs.declared.call.Call.{Call}
@@ -13,73 +12,77 @@ use Rattle.asm_board.specs.declared.call.Call.TheVariants.{Step}
 use Rattle.asm_board.specs.declared.reply.Body.TheVariants as bodies
 use Rattle.asm_board.specs.declared.entry.Entry.{Entry}
 use Rattle.asm_board.specs.declared.refusal.Refusal.{Refusal}
-use Rattle.asm_board.specs.Meanings.{Meanings}
 use Rattle.asm_board.specs.declared.refusal.RefusalName.TheVariants as no
-use Rattle.asm_board.specs.Contents.{Stepped, Reaches, Fills, state_limit, first_clash, stepped_by, after_yield}
-use Rattle.asm_board.specs.Refusals.{after, is_there, of_model, unknown_model, models_full}
+use Rattle.asm_board.specs.Meanings.{Meanings}
+use Rattle.asm_board.specs.Contents.{Contents}
+use Rattle.asm_board.specs.Stepping.{first_clash, stepped_by, after_yield, step}
+use Rattle.asm_board.specs.Inputs.{given}
+use Rattle.asm_board.specs.Refusals.{of_model, unknown_model, models_full}
 use Rattle.asm_board.specs.Replies.{tail_of}
-use Rattle.asm_board.specs.Shown.{out_shown}
 use Rattle.asm_board.specs.Slots.{Models, slot_in, changed, new_slots, put}
 use Rattle.asm_board.specs.Calls.{is_change}
-use Rattle.asm_board.specs.Changes.{Accepted, Change, accepted, becomes, state_after, with_state, change}
+use Rattle.asm_board.specs.Changes.{Accepted, Change, becomes, found, stepped_from, step_model, change}
 use Rattle.asm_board.specs.Reads.{read}
 use Rattle.asm_board.specs.Boards.{model_limit, body_of_change, body_of_read, slots_of_change, spoken_of, loads_at, weight_at, body_at, change_at, slots_at, applied}
 use Rattle.asm_board.specs.Answers.{without_entry, with_room, outcome, answer_change, answer_at}
-use Rattle.asm_board.specs.Steps.{content_after, FiresItsSet, StepsAlone}
+use Rattle.asm_board.specs.Steps.{state_before, content_after, YieldsFor, FiresItsSet, StepsAlone}
+use Rattle.asm_board.specs.Trails.{slot_after}
+use Rattle.asm_board.proofs.Contents.{IfDone, admitted_is, done_content}
 use Rattle.asm_board.proofs.FirstClash.{none-IsConsistent}
+use Rattle.asm_board.proofs.Found.{goes_on, goes_by, gives, is_the_one}
+use Rattle.asm_board.proofs.Others.{the_one}
 use Rattle.asm_board.proofs.Puts.{slot_in-put, slot_in-put_other, slot_in-only}
 use Rattle.asm_board.proofs.Legal.{answer_at_of}
 
 -- ---- an accepted step
 
-same_accepted : (a b : Accepted) → ◌≡◌ {A = Change} (Ok a) (Ok b) → a ≡ b
-same_accepted a b e = cc
+-- the content is the one before with such updates fired
+pub record IsFired (m : Meanings) (pick : Option ℕ) (slot : Slot) (inputs : List Update) (content : Contents) : Type 0 where
+  pub updates : UpdateSet
+  pub yielded : YieldsFor m pick slot inputs updates
+  pub same : content ≡ content_after slot inputs updates
 
--- what an accepted step of a model tells, where it reaches a state
-abbrev told_of : List ℕ → Slot → Stepped → Change
-told_of name slot stepped =
-    after (state_after no.Fault (of_model name) slot.content.program stepped) (λ state. accepted (out_shown name) (becomes name (with_state slot.content.program state)))
-
-module _ (name : List ℕ) (slot : Slot) (step : Accepted) (updates : UpdateSet) where
-  -- the news is the state that isn't too heavy
-  light_at : (t : Bool) → nat_le (state_weight (fire slot.content.state updates)) state_limit ≡ t
-      → told_of name slot (if t then Reaches (fire slot.content.state updates) else Fills (state_weight (fire slot.content.state updates))) ≡ Ok step
-      → (state_weight (fire slot.content.state updates) ≤ state_limit) × (step.news ≡ becomes name (with_state slot.content.program (fire slot.content.state updates)))
-  light_at true fits is =
-      (leb-true _ _ fits, sym (ap (λ (a : Accepted). a.news) (same_accepted (record { ok = out_shown name; news = becomes name (with_state slot.content.program (fire slot.content.state updates)) }) step is)))
-  light_at false fits is = absurd (cc (is))
-
+module _ (m : Meanings) (pick : Option ℕ) (slot : Slot) (inputs : List Update) where
   -- a set without a clash is consistent, and is fired
-  fired_at : (o : Option (Update × Update)) → first_clash (items updates) ≡ o → told_of name slot (stepped_by slot.content.state updates o) ≡ Ok step
-      → IsConsistent updates × (state_weight (fire slot.content.state updates) ≤ state_limit) × (step.news ≡ becomes name (with_state slot.content.program (fire slot.content.state updates)))
-  fired_at None none is =
-      let h = light_at (nat_le (state_weight (fire slot.content.state updates)) state_limit) refl is in
-      (none-IsConsistent updates none, h.0, h.1)
-  fired_at (Some clash) some is = absurd (cc (is))
-
-module _ (m : Meanings) (pick : Option ℕ) where
-  -- what is fired is what the main rule yields
-  yielded_at : (models : Models) (name : List ℕ) (slot : Slot) (step : Accepted) → slot_in models name ≡ Some slot
-      → (y : Yielded) → m.yields slot.content.program slot.content.state pick ≡ y → told_of name slot (after_yield slot.content.state y) ≡ Ok step → FiresItsSet m models name pick step
-  yielded_at models name slot step found (Yields updates next) yields is =
-      let h = fired_at name slot step updates (first_clash (items updates)) refl is in
-      record {
-        slot = slot;
-        found = found;
+  fires_at : (updates : UpdateSet) (next : List ℕ) (o : Option (Update × Update)) → m.yields slot.content.program (state_before slot inputs) pick ≡ Yields updates next
+      → first_clash (items updates) ≡ o → IfDone (stepped_by slot.content (state_before slot inputs) updates o) (IsFired m pick slot inputs)
+  fires_at updates next None yields none =
+      admitted_is (content_after slot inputs updates) (IsFired m pick slot inputs) (λ whole. record {
         updates = updates;
-        yielded = record { next = next; yields = yields; consistent = h.0; light = h.1 };
-        news = h.2;
-      }
-  yielded_at models name slot step found (Stops fault) yields is = absurd (cc (is))
+        yielded = record { next = next; yields = yields; consistent = none-IsConsistent updates none; whole = whole };
+        same = refl;
+      })
+  fires_at updates next (Some clash) yields some = tt
 
-  stepped_at : (models : Models) (name : List ℕ) (step : Accepted) (o : Option Slot) → slot_in models name ≡ o
-      → after (is_there o (unknown_model name)) (λ slot. told_of name slot (after_yield slot.content.state (m.yields slot.content.program slot.content.state pick))) ≡ Ok step
-      → FiresItsSet m models name pick step
-  stepped_at models name step None none is = absurd (cc (is))
-  stepped_at models name step (Some slot) some is = yielded_at models name slot step some (m.yields slot.content.program slot.content.state pick) refl is
+  yields_at : (y : Yielded) → m.yields slot.content.program (state_before slot inputs) pick ≡ y
+      → IfDone (after_yield slot.content (state_before slot inputs) y) (IsFired m pick slot inputs)
+  yields_at (Yields updates next) yields = fires_at updates next (first_clash (items updates)) yields refl
+  yields_at (Stops fault) yields = tt
 
-  pub fires_its_set : (models : Models) (name : List ℕ) (step : Accepted) → change m models (Step name pick) ≡ Ok step → FiresItsSet m models name pick step
-  fires_its_set models name step is = stepped_at models name step (slot_in models name) refl is
+  -- what is fired is what the main rule yields
+  pub steps : IfDone (step m slot.content inputs pick) (IsFired m pick slot inputs)
+  steps = yields_at (m.yields slot.content.program (state_before slot inputs) pick) refl
+
+module _ (m : Meanings) (models : Models) (name : List ℕ) (tree : Port) (pick : Option ℕ) where
+  fires : IfOk (step_model m models name tree pick) (FiresItsSet m models name tree pick)
+  fires =
+      goes_by (λ slot. slot_in models name ≡ Some slot) (FiresItsSet m models name tree pick) (found m models name) _
+      (is_the_one (slot_in models name) (unknown_model name)) (λ slot is.
+      goes_on (FiresItsSet m models name tree pick) (given name slot.content (fields_of tree)) _ (λ inputs are_given.
+      goes_by (IsFired m pick slot inputs) (FiresItsSet m models name tree pick) (stepped_from m (of_model name) pick slot.content inputs) _
+      (done_content (IsFired m pick slot inputs) no.Fault (of_model name) slot.content.program (step m slot.content inputs pick) (steps m pick slot inputs))
+      (λ content fired. record {
+        slot = slot;
+        found = is;
+        inputs = inputs;
+        are_given = are_given;
+        updates = fired.updates;
+        yielded = fired.yielded;
+        news = ap (becomes name) fired.same;
+      })))
+
+  pub fires_its_set : (accepted : Accepted) → change m models (Step name tree pick) ≡ Ok accepted → FiresItsSet m models name tree pick accepted
+  fires_its_set accepted is = gives (FiresItsSet m models name tree pick) (step_model m models name tree pick) accepted fires is
 
 -- ---- a refused change
 
@@ -102,35 +105,44 @@ module _ (m : Meanings) where
 
   -- ---- the board after a step
 
-  abbrev slots_after : Board → Change → Models
-  slots_after b result = changed (b.front + 1) b.slots (slots_of_change result)
+  abbrev slots_after : Board → Models → Change → Models
+  slots_after b models result = changed (b.front + 1) b.slots (slots_of_change models result)
 
   -- the slots after an accepted step
-  slots_fired : (b : Board) (name : List ℕ) (step : Accepted) (slot : Slot) (updates : UpdateSet) → step.news ≡ becomes name (content_after m slot updates)
-      → slots_after b (Ok step) ≡ put name (record { version = b.front + 1; content = content_after m slot updates }) b.slots
-  slots_fired b name step slot updates is = ap (λ news. changed (b.front + 1) b.slots (new_slots news)) is
+  slots_fired : (b : Board) (models : Models) (name : List ℕ) (accepted : Accepted) (slot : Slot) (content : Contents) → slot_in models name ≡ Some slot → accepted.news ≡ becomes name content
+      → slots_after b models (Ok accepted) ≡ put name (slot_after (b.front + 1) (Some slot) content) b.slots
+  slots_fired b models name accepted slot content there is =
+      ap (λ news. changed (b.front + 1) b.slots (new_slots models news)) is
+      ∙ ap (λ o. put name (slot_after (b.front + 1) o content) b.slots) there
 
-  steps_with : (b : Board) (name : List ℕ) (pick : Option ℕ) (entry : Entry) (step : Accepted) → entry.call ≡ Step name pick → change_at m b (Step name pick) ≡ Ok step → StepsAlone m b name pick entry
-  steps_with b name pick entry step of is =
-      let f = fires_its_set m pick (spoken_of b (Step name pick)) name step is in
-      let new : Slot = record { version = b.front + 1; content = content_after m f.slot f.updates } in
+  steps_with : (b : Board) (name : List ℕ) (tree : Port) (pick : Option ℕ) (entry : Entry) (accepted : Accepted) → entry.call ≡ Step name tree pick → change_at m b (Step name tree pick) ≡ Ok accepted
+      → StepsAlone m b name tree pick entry
+  steps_with b name tree pick entry accepted of is =
+      let models : Models = spoken_of b (Step name tree pick) in
+      let f = fires_its_set m models name tree pick accepted is in
+      let content : Contents = content_after f.slot f.inputs f.updates in
+      let new : Slot = slot_after (b.front + 1) (Some f.slot) content in
       let slots : (applied m b entry).slots ≡ put name new b.slots =
-      ap (λ c. changed (b.front + 1) b.slots (slots_at m b c)) of ∙ (ap (slots_after b) is ∙ slots_fired b name step f.slot f.updates f.news) in
+      ap (λ c. changed (b.front + 1) b.slots (slots_at m b c)) of ∙ (ap (slots_after b models) is ∙ slots_fired b models name accepted f.slot content f.found f.news) in
       record {
         slot = f.slot;
-        found = sym (slot_in-only b.slots name) ∙ f.found;
+        found = sym (slot_in-only b.slots (name ∷ []) name (the_one name)) ∙ f.found;
+        inputs = f.inputs;
+        are_given = f.are_given;
         updates = f.updates;
         yielded = f.yielded;
         fired = ap (λ ms. slot_in ms name) slots ∙ slot_in-put name new b.slots;
         others = λ q differs. ap (λ ms. slot_in ms q) slots ∙ slot_in-put_other name new b.slots q differs;
       }
 
-  steps_at : (room : ℕ) (b : Board) (seat : ℕ) (name : List ℕ) (pick : Option ℕ) (entry : Entry) (result : Change) → change_at m b (Step name pick) ≡ result
-      → (answer_at m room b seat (Step name pick)).entry ≡ Some entry → StepsAlone m b name pick entry
-  steps_at room b seat name pick entry (Ok step) result is = steps_with b name pick entry step (answer_at_of m room b seat (Step name pick) entry is).of_call result
-  steps_at room b seat name pick entry (Err why) result is =
-      let unlike : None ≡ Some entry = sym (no_entry room b seat (Step name pick) why result) ∙ is in
+  steps_at : (room : ℕ) (b : Board) (seat : ℕ) (name : List ℕ) (tree : Port) (pick : Option ℕ) (entry : Entry) (result : Change) → change_at m b (Step name tree pick) ≡ result
+      → (answer_at m room b seat (Step name tree pick)).entry ≡ Some entry → StepsAlone m b name tree pick entry
+  steps_at room b seat name tree pick entry (Ok accepted) result is =
+      steps_with b name tree pick entry accepted (answer_at_of m room b seat (Step name tree pick) entry is).of_call result
+  steps_at room b seat name tree pick entry (Err why) result is =
+      let unlike : None ≡ Some entry = sym (no_entry room b seat (Step name tree pick) why result) ∙ is in
       absurd (cc (unlike))
 
-  pub steps_alone : (room : ℕ) (b : Board) (seat : ℕ) (name : List ℕ) (pick : Option ℕ) (entry : Entry) → (answer_at m room b seat (Step name pick)).entry ≡ Some entry → StepsAlone m b name pick entry
-  steps_alone room b seat name pick entry is = steps_at room b seat name pick entry (change_at m b (Step name pick)) refl is
+  pub steps_alone : (room : ℕ) (b : Board) (seat : ℕ) (name : List ℕ) (tree : Port) (pick : Option ℕ) (entry : Entry) → (answer_at m room b seat (Step name tree pick)).entry ≡ Some entry
+      → StepsAlone m b name tree pick entry
+  steps_alone room b seat name tree pick entry is = steps_at room b seat name tree pick entry (change_at m b (Step name tree pick)) refl is

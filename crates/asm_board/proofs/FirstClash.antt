@@ -20,7 +20,7 @@ use Rattle.asm_value.specs.State.{IsConsistent, IsClash}
 use Rattle.asm_value.proofs.ClashLaws.{IsClash-alone}
 use Rattle.asm_value.proofs.StateLaws.{location_is}
 use Rattle.asm_updates.proofs.ListLaws.{has-listed, clash_from, IsConsistent-from_none, IsClash-from_some, clash-IsConsistent}
-use Rattle.asm_board.specs.Contents.{first_clash}
+use Rattle.asm_board.specs.Stepping.{first_clash}
 
 -- ---- the list of a set ascends
 

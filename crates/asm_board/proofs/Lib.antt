@@ -1,12 +1,17 @@
 -- The lemmas on which the laws rest, and those of the crates above.
+pub mod Found
+pub mod Contents
 pub mod Slots
 pub mod FirstClash
-pub mod Boards
 pub mod Puts
+pub mod Others
+pub mod Boards
 pub mod Journals
 pub mod StillStands
 pub mod Legal
 pub mod Firing
+pub mod Kept
+pub mod Wholes
 pub mod Entries
-pub mod Others
 pub mod Listed
+pub mod Sources

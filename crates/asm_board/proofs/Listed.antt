@@ -1,5 +1,5 @@
 -- What is shown of a state is its defined functions with their values, ascending by name.
-use Rattle.std.proofs.Common.{◌≡◌, ◌≢◌, ◌⊎◌, ⊎_elim, ℕ, zero, suc, ◌+◌, List, [], ◌∷◌, Option, None, Some, slice_get, refl, sym, subst, ◌∙◌, arith}
+use Rattle.std.proofs.Common.{◌≡◌, ◌≢◌, ⊎_elim, ℕ, zero, suc, ◌+◌, List, [], ◌∷◌, Option, None, Some, slice_get, refl, sym, subst, ◌∙◌, arith}
 use Rattle.std.specs.List.{Contains}
 use Rattle.asm_value.specs.declared.domain.DomainInfo.{DomainInfo}
 use Rattle.asm_value.specs.State.{StateMap}
@@ -9,7 +9,7 @@ use Rattle.asm_portable.specs.declared.port.Port.{Port}
 use Rattle.asm_portable.specs.declared.port.Field.{Field}
 use Rattle.asm_portable.specs.Ports.{field, ascending, AscendByKey}
 use Rattle.asm_portable.proofs.Ascending.{Has, Has-from_Contains, Contains-from_Has, Has-put_by, put_by-itself, put_by-other, put_by-ascends, none_ascends}
-use Rattle.asm_board.specs.Shown.{function_shown, shown_field, defined, functions_listed, IsDefinedFunction, NamesDiffer}
+use Rattle.asm_board.specs.Shown.{function_shown, shown_field, defined, every_kind, functions_listed, IsDefinedFunction, NamesDiffer}
 
 -- ---- the fields ascend by key
 
@@ -24,7 +24,7 @@ module _ (domains : List DomainInfo) (state : StateMap) where
   tree_of number info = function_shown domains state number info.args
 
   abbrev listed_from : ℕ → List FunctionInfo → List Field
-  listed_from first fs = ascending (defined domains state first fs)
+  listed_from first fs = ascending (defined every_kind domains state first fs)
 
   -- the field is that of a defined function among these, of which this is the number of the first
   record IsAmong (first : ℕ) (fs : List FunctionInfo) (shown : Field) : Type 0 where
@@ -62,7 +62,7 @@ module _ (domains : List DomainInfo) (state : StateMap) where
 
   among_at : (first : ℕ) (f : FunctionInfo) (fs : List FunctionInfo) (shown : Field) (o : Option Port) → tree_of first f ≡ o
       → (Has (listed_from (first + 1) fs) shown → IsAmong (first + 1) fs shown)
-      → Has (ascending (shown_field f.name o (defined domains state (first + 1) fs))) shown → IsAmong first (f ∷ fs) shown
+      → Has (ascending (shown_field f.name o (defined every_kind domains state (first + 1) fs))) shown → IsAmong first (f ∷ fs) shown
   among_at first f fs shown None is rest h = later first f fs shown (rest h)
   among_at first f fs shown (Some tree) is rest h =
       ⊎_elim (λ e. here first f fs shown tree is e) (λ i. later first f fs shown (rest i)) (Has-put_by (λ (g : Field). g.key) (field f.name tree) (listed_from (first + 1) fs) shown h)
@@ -97,16 +97,16 @@ head_differs f fs i g differ found same = let one : suc i ≡ 0 = differ (suc i)
 
 module _ (domains : List DomainInfo) (state : StateMap) where
   itself_at : (first : ℕ) (f : FunctionInfo) (fs : List FunctionInfo) (tree : Port) (o : Option Port) → o ≡ Some tree
-      → Has (ascending (shown_field f.name o (defined domains state (first + 1) fs))) (field f.name tree)
+      → Has (ascending (shown_field f.name o (defined every_kind domains state (first + 1) fs))) (field f.name tree)
   itself_at first f fs tree None is = absurd (cc (is))
   itself_at first f fs tree (Some other) is =
       let same : other ≡ tree = cc (is) in
-      subst (λ (t : Port). Has (ascending (shown_field f.name (Some other) (defined domains state (first + 1) fs))) (field f.name t)) same
+      subst (λ (t : Port). Has (ascending (shown_field f.name (Some other) (defined every_kind domains state (first + 1) fs))) (field f.name t)) same
       (put_by-itself (λ (g : Field). g.key) (field f.name other) (listed_from domains state (first + 1) fs))
 
   other_at : (first : ℕ) (f : FunctionInfo) (fs : List FunctionInfo) (shown : Field) (o : Option Port) → shown.key ≢ f.name
       → Has (listed_from domains state (first + 1) fs) shown
-      → Has (ascending (shown_field f.name o (defined domains state (first + 1) fs))) shown
+      → Has (ascending (shown_field f.name o (defined every_kind domains state (first + 1) fs))) shown
   other_at first f fs shown None differs rest = rest
   other_at first f fs shown (Some tree) differs rest = put_by-other (λ (g : Field). g.key) (field f.name tree) (listed_from domains state (first + 1) fs) shown differs rest
 

@@ -1,5 +1,5 @@
 -- What was prepared at a beginning of a journal stands after it, where its versions are the same.
-use Rattle.std.proofs.Common.{true, cond, eq-eqb, ◌≡◌, ℕ, List, [], ◌∷◌, fold, Some, None, refl, sym, ap, subst, ◌∙◌, arith}
+use Rattle.std.proofs.Common.{true, cond, eq-eqb, ◌≡◌, ℕ, List, [], ◌∷◌, fold, Some, None, refl, sym, ap, subst, ◌∙◌}
 use Rattle.std.proofs.lemmas.List.Sums.{fold-append}
 use mathlib.Core.List.{IsPrefix}
 use Rattle.asm_board.specs.declared.board.Board.{Board}
@@ -14,7 +14,7 @@ use Rattle.asm_board.specs.Reads.{read}
 use Rattle.asm_board.specs.Replies.{tail_of}
 use Rattle.asm_board.specs.Boards.{empty_board, version_of, body_of_change, body_of_read, slots_of_change, weight_of_change, is_new_model, spoken_of, change_at, body_at, versions_at, applied, board_of}
 use Rattle.asm_board.specs.Answers.{answer, Stands, Settled, first_stale, settle}
-use Rattle.asm_board.proofs.Boards.{Grows, grows, fits, same_slot, same_models}
+use Rattle.asm_board.proofs.Boards.{Grows, grows, fits, none_fits, same_slot, same_models}
 
 module _ (m : Meanings) where
   -- the body of a change is that of the models of which it speaks
@@ -30,7 +30,7 @@ module _ (m : Meanings) where
       let later : board_of m journal ≡ fold (applied m) b pre.0 = ap (board_of m) (sym pre.1) ∙ fold-append (applied m) empty_board prefix pre.0 in
       same_models b.slots (board_of m journal).slots (footprint c)
       (λ q v. same_slot b.front (slot_in b.slots q) (slot_in (board_of m journal).slots q)
-      (fits m prefix empty_board q (omega arith))
+      (fits m prefix empty_board q (none_fits 0))
       (subst (λ (d : Board). Grows b.front (slot_in b.slots q) (slot_in d.slots q)) (sym later) (grows m pre.0 b q))
       v)
       same
@@ -47,7 +47,7 @@ module _ (m : Meanings) where
         versions = same;
         body = s.body ∙ body;
         tail = s.tail ∙ ap tail_of body;
-        slots = s.slots ∙ ap (λ ms. cond (is_change c) (slots_of_change (change m ms c)) []) spoken;
+        slots = s.slots ∙ ap (λ ms. cond (is_change c) (slots_of_change ms (change m ms c)) []) spoken;
         loads = s.loads ∙ ap (λ ms. is_new_model ms c) spoken;
         weight = s.weight ∙ ap (λ ms. cond (is_change c) (weight_of_change c (change m ms c)) 0) spoken;
       }

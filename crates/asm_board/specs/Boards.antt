@@ -34,9 +34,9 @@ abbrev pub body_of_read : Tried Port → Body
 body_of_read (Ok tree) = bodies.Ok tree
 body_of_read (Err why) = bodies.No why
 
-abbrev pub slots_of_change : Change → List Changed
-slots_of_change (Ok accepted) = new_slots accepted.news
-slots_of_change (Err why) = []
+abbrev pub slots_of_change : Models → Change → List Changed
+slots_of_change models (Ok accepted) = new_slots models accepted.news
+slots_of_change models (Err why) = []
 
 -- what the entry of a change weighs, 0 where there is none
 abbrev pub weight_of_change : Call → Change → ℕ
@@ -83,7 +83,8 @@ module _ (m : Meanings) where
       else body_of_read (read m board.slots c)
 
   abbrev pub slots_at : Board → Call → List Changed
-  slots_at board c = if is_change c then slots_of_change (change_at board c) else []
+  slots_at board c =
+      if is_change c then slots_of_change (spoken_of board c) (change_at board c) else []
 
   abbrev pub weight_at : Board → Call → ℕ
   weight_at board c = if is_change c then weight_of_change c (change_at board c) else 0

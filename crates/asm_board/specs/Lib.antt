@@ -1,10 +1,14 @@
 pub mod Meanings
 pub mod Contents
+pub mod Kinds
+pub mod Stepping
 pub mod Refusals
+pub mod Coming
 pub mod Replies
 pub mod Calls
 pub mod Slots
 pub mod Shown
+pub mod Inputs
 pub mod Changes
 pub mod Reads
 pub mod Boards
@@ -13,3 +17,5 @@ pub mod Ends
 pub mod Numbers
 pub mod Journals
 pub mod Steps
+pub mod Trails
+pub mod Sources

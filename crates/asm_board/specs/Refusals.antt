@@ -22,8 +22,14 @@ name_text no.BadText = codes "BadText"
 name_text no.UnknownModel = codes "UnknownModel"
 name_text no.InitFault = codes "InitFault"
 name_text no.StateFull = codes "StateFull"
+name_text no.Broken = codes "Broken"
+name_text no.BadInput = codes "BadInput"
 name_text no.Fault = codes "Fault"
 name_text no.Clash = codes "Clash"
+name_text no.InvTaken = codes "InvTaken"
+name_text no.UnknownInv = codes "UnknownInv"
+name_text no.InvsFull = codes "InvsFull"
+name_text no.NotInTrail = codes "NotInTrail"
 name_text no.JournalFull = codes "JournalFull"
 
 abbrev pub name_of : Refusal → List ℕ
@@ -103,6 +109,42 @@ fault_at name whose column kind line = refusal name
 abbrev pub state_full : Whose → ℕ → Refusal
 state_full whose weight = refusal no.StateFull
     (model_is whose.name ∷ whose.step ++ field (codes "weight") (number weight) ∷ [])
+
+-- the state would break this invariant
+abbrev pub broken : Whose → List ℕ → Refusal
+broken whose inv =
+    refusal no.Broken (field (codes "inv") (text inv) ∷ model_is whose.name ∷ whose.step)
+
+-- what is given for a function of a model doesn't fit; the function has no name where there is no
+-- such model
+abbrev pub bad_input : List ℕ → List ℕ → Refusal
+bad_input function name =
+    refusal no.BadInput (field (codes "function") (text function) ∷ model_is name ∷ [])
+
+abbrev pub invariant_of : RefusalName → List ℕ → List ℕ → Refusal
+invariant_of name inv model =
+    refusal name (field (codes "inv") (text inv) ∷ model_is model ∷ [])
+
+-- the model has an invariant of this name
+abbrev pub inv_taken : List ℕ → List ℕ → Refusal
+inv_taken inv name = invariant_of no.InvTaken inv name
+
+-- the model has no invariant of this name
+abbrev pub unknown_inv : List ℕ → List ℕ → Refusal
+unknown_inv inv name = invariant_of no.UnknownInv inv name
+
+-- the model has as many invariants as may be
+abbrev pub invs_full : ℕ → List ℕ → Refusal
+invs_full limit name =
+    refusal no.InvsFull (field (codes "limit") (number limit) ∷ model_is name ∷ [])
+
+-- the version isn't among the earlier ones that are kept, of which these are the newest and the
+-- oldest
+abbrev pub not_in_trail : List ℕ → (newest oldest : ℕ) → Refusal
+not_in_trail name newest oldest = refusal no.NotInTrail
+    (model_is name
+    ∷ field (codes "newest") (number newest)
+    ∷ field (codes "oldest") (number oldest) ∷ [])
 
 -- the step's set gives this location two values
 abbrev pub clash_at : Whose → List Port → List ℕ → List Port → Refusal

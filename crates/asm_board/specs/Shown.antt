@@ -1,5 +1,5 @@
 -- What a client is shown of a model.
-use Rattle.std.specs.Prelude.{ℕ, ◌+◌, ◌≡◌, ◌==◌, not, Option, Some, None, List, [], ◌∷◌, length, map, take, count_by, slice_get, codes, if◌then◌else◌}
+use Rattle.std.specs.Prelude.{ℕ, ◌+◌, ◌≡◌, ◌==◌, Bool, true, not, Option, Some, None, List, [], ◌∷◌, length, map, take, count_by, slice_get, codes, if◌then◌else◌}
 use Rattle.std.specs.Option.{option_map_or}
 use Rattle.std.specs.List.{suffix_len}
 use Rattle.asm_value.specs.declared.domain.Domain.{Domain as Domains}
@@ -16,6 +16,7 @@ use Rattle.asm_program.specs.declared.outcome.Fault.{Fault}
 use Rattle.asm_program.specs.declared.outcome.FaultKind.{FaultKind}
 use Rattle.asm_program.specs.declared.outcome.FaultKind.TheVariants as faults
 use Rattle.asm_program.specs.declared.program.FunctionInfo.{FunctionInfo}
+use Rattle.asm_program.specs.declared.program.FunctionKind.{FunctionKind}
 use Rattle.asm_program.specs.declared.program.Program.{Program}
 use Rattle.asm_program.specs.Meaning.{location_of}
 use Rattle.asm_portable.specs.declared.port.Port.{Port}
@@ -27,6 +28,8 @@ use Rattle.asm_board.specs.declared.board.NamedSlot.{NamedSlot}
 use Rattle.asm_board.specs.declared.refusal.Refusal.{Refusal}
 use Rattle.asm_board.specs.declared.refusal.RefusalName.{RefusalName}
 use Rattle.asm_board.specs.Refusals.{Whose, fault_at, clash_at}
+use Rattle.asm_board.specs.Kinds.{is_out}
+use Rattle.asm_board.specs.Contents.{Contents}
 use Rattle.asm_board.specs.Slots.{Models}
 
 -- ---- domains
@@ -70,16 +73,29 @@ abbrev pub shown_field : List ℕ → Option Port → List Field → List Field
 shown_field name None others = others
 shown_field name (Some tree) others = field name tree ∷ others
 
--- the defined functions in text order, of which this is the number of the first
-abbrev pub defined : List DomainInfo → StateMap → ℕ → List FunctionInfo → List Field
-defined domains state number [] = []
-defined domains state number (f ∷ fs) =
-    shown_field f.name (function_shown domains state number f.args)
-    (defined domains state (number + 1) fs)
+-- what is shown of a function, where its kind is one of these
+abbrev pub shown_if : Bool → Option Port → Option Port
+shown_if of_kind shown = if of_kind then shown else None
 
--- each defined function with what is shown of it, by name
+-- the defined functions of some kinds in text order, of which this is the number of the first
+abbrev pub defined : (FunctionKind → Bool) → List DomainInfo → StateMap → ℕ → List FunctionInfo
+    → List Field
+defined kinds domains state number [] = []
+defined kinds domains state number (f ∷ fs) =
+    shown_field f.name (shown_if (kinds f.kind) (function_shown domains state number f.args))
+    (defined kinds domains state (number + 1) fs)
+
+-- each of them that is defined with what is shown of it, by name
+abbrev pub listed_of : (FunctionKind → Bool) → Program → StateMap → List Field
+listed_of kinds program state =
+    ascending (defined kinds program.domains state 0 program.functions)
+
+abbrev pub every_kind : FunctionKind → Bool
+every_kind kind = true
+
+-- each defined function
 abbrev pub functions_listed : Program → StateMap → List Field
-functions_listed program state = ascending (defined program.domains state 0 program.functions)
+functions_listed program state = listed_of every_kind program state
 
 abbrev pub functions_shown : Program → StateMap → Port
 functions_shown program state = fields (functions_listed program state)
@@ -106,12 +122,12 @@ run_shown program steps state = fields
     ∷ field (codes "functions") (functions_shown program state)
     ∷ field (codes "steps") (number steps) ∷ [])
 
--- what is shown of a model, which has no invariants
+-- what is shown of a model, its invariants by their names
 abbrev pub state_shown : Slot → Port
 state_shown slot = fields
     (field (codes "domains") (domains_shown slot.content.program slot.content.state)
     ∷ field (codes "functions") (functions_shown slot.content.program slot.content.state)
-    ∷ field (codes "invs") (list [])
+    ∷ field (codes "invs") (list (map (λ inv. text inv.name) slot.content.invs))
     ∷ field (codes "version") (number slot.version) ∷ [])
 
 -- a model's name with its version
@@ -122,9 +138,14 @@ model_shown model = list (text model.name ∷ number model.slot.version ∷ [])
 abbrev pub models_shown : Models → Port
 models_shown models = list (map model_shown models)
 
--- a step tells the out functions of its model, and it has none
-abbrev pub out_shown : List ℕ → Port
-out_shown name = fields (field (codes "out") (fields (field name (fields []) ∷ [])) ∷ [])
+-- what the environment is told of a content: its out functions that are defined
+abbrev pub outs_shown : Contents → Port
+outs_shown content = fields (listed_of is_out content.program content.state)
+
+-- a step tells the out functions of its model
+abbrev pub out_shown : List ℕ → Contents → Port
+out_shown name content =
+    fields (field (codes "out") (fields (field name (outs_shown content) ∷ [])) ∷ [])
 
 -- ---- faults and clashes
 

@@ -1,9 +1,12 @@
--- The models of a board by their names, and how a change puts new ones there.
-use Rattle.std.specs.Prelude.{ℕ, Option, Some, None, List, [], ◌∷◌, ◌++◌, map, if◌then◌else◌}
+-- The models of a board by their names, their earlier contents, and how a change puts new ones
+-- there.
+use Rattle.std.specs.Prelude.{ℕ, ◌-◌, not, Option, Some, None, List, [], ◌∷◌, ◌++◌, map, filter, drop, length, option_map, if◌then◌else◌}
 use Rattle.std.specs.Str.{bytes_eq}
 use Rattle.asm_portable.specs.Ascending.{put_by, AscendsBy}
 use Rattle.asm_board.specs.declared.board.Slot.{Slot}
 use Rattle.asm_board.specs.declared.board.NamedSlot.{NamedSlot}
+use Rattle.asm_board.specs.declared.trail.Trail.{Trail}
+use Rattle.asm_board.specs.declared.trail.TrailPair.{TrailPair}
 use Rattle.asm_board.specs.declared.prepared.NameVersion.{NameVersion}
 use Rattle.asm_board.specs.declared.prepared.Changed.{Changed}
 use Rattle.asm_board.specs.Contents.{Contents}
@@ -43,33 +46,75 @@ versions_in models [] = []
 versions_in models (name ∷ names) =
     record { name = name; version = version_in models name } ∷ versions_in models names
 
+-- ---- trails
+
+-- the most earlier contents of a model that are kept
+abbrev pub most_pairs : ℕ
+most_pairs = 16
+
+abbrev pub no_trail : Trail
+no_trail = record { pairs = [] }
+
+-- the earlier contents of a model with their versions, the oldest first
+abbrev pub pairs_of : Slot → List TrailPair
+pairs_of slot = slot.trail.pairs
+
+-- the newest of these pairs, as many as are kept
+abbrev pub newest : List TrailPair → List TrailPair
+newest pairs = drop (length pairs - most_pairs) pairs
+
+-- one more pair, and the oldest goes where there are too many
+abbrev pub remembered : Trail → ℕ → Contents → Trail
+remembered trail version content = record {
+  pairs = newest (trail.pairs ++ record { version = version; content = content } ∷ []);
+}
+
+-- a new model has no earlier contents; of any other the one before a change is remembered
+abbrev pub trail_after : Option Slot → Trail
+trail_after None = no_trail
+trail_after (Some slot) = remembered slot.trail slot.version slot.content
+
 -- ---- changes of models
 
--- a model's new content
+-- a model's new content, none where the model goes
 pub record News : Type 0 where
   pub name : List ℕ
-  pub content : Contents
+  pub content : Option Contents
 
--- a new slot, before the version of its entry is known
-abbrev pub new_slot : Contents → Slot
-new_slot content = record { version = 0; content = content }
+-- a new slot in place of an old one, before the version of its entry is known
+abbrev pub new_slot : Option Slot → Contents → Slot
+new_slot old content = record { version = 0; content = content; trail = trail_after old }
 
--- the new slots of a change, with the version 0
-abbrev pub new_slots : List News → List Changed
-new_slots news = map (λ n. record { name = n.name; slot = new_slot n.content }) news
+abbrev pub slot_of_news : Models → News → Changed
+slot_of_news models n = record {
+  name = n.name;
+  slot = option_map (new_slot (slot_in models n.name)) n.content;
+}
+
+-- the new slots of a change of these models, with the version 0
+abbrev pub new_slots : Models → List News → List Changed
+new_slots models news = map (slot_of_news models) news
 
 -- a slot under its name among models that ascend by name, in place of one that is there
 abbrev pub put : List ℕ → Slot → Models → Models
 put name slot models = put_by (λ m. m.name) (named name slot) models
+
+-- the other models
+abbrev pub without : List ℕ → Models → Models
+without name models = filter (λ m. not (bytes_eq name m.name)) models
 
 -- each name is below those after it, so each is there once
 abbrev pub AscendByName : Models → Type 0
 AscendByName models = AscendsBy (λ m. m.name) models
 
 abbrev pub at_version : ℕ → Slot → Slot
-at_version version slot = record { version = version; content = slot.content }
+at_version version slot = record slot { version = version }
+
+abbrev pub changed_to : ℕ → Models → List ℕ → Option Slot → Models
+changed_to version models name None = without name models
+changed_to version models name (Some slot) = put name (at_version version slot) models
 
 -- the models with each change made, at this version
 abbrev pub changed : ℕ → Models → List Changed → Models
 changed version models [] = models
-changed version models (c ∷ cs) = changed version (put c.name (at_version version c.slot) models) cs
+changed version models (c ∷ cs) = changed version (changed_to version models c.name c.slot) cs

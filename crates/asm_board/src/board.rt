@@ -1,21 +1,22 @@
 //! Boards: the models that a journal leaves.
 ghost use Rattle.std.specs.Prelude.{◌≡◌, ◌<◌, ◌-◌, ◌^◌, ◌≤◌, length, min, IfOk, OnOk, IsTrue, option_map, insert, slice_set, if◌then◌else◌};
 ghost use Rattle.asm_board.specs.Boards as spec;
-ghost use Rattle.asm_board.specs.Slots.{slot_in, put, named, at_version};
+ghost use Rattle.asm_board.specs.Slots.{slot_in, put, named, at_version, without, changed_to};
 ghost use Rattle.asm_board.specs.declared.board.Slot.{Slot as Slots};
 
 use crate::content::Content;
 use crate::prepared::Changed;
-use crate::shared::Shared;
-use asm_value::{List, Text};
+use crate::trail::Trail;
+use asm_value::{List, Shared, Text};
 use std::alloc::{AllocError, Global};
 use std::cmp::Ordering;
 
-/// A model at one version: the number of the entry that changed it last.
+/// A model at one version, the number of the entry that changed it last, with what it was before.
 #[derive(Drop)]
 pub struct Slot {
     pub version: u64,
     pub content: Shared<Content>,
+    pub trail: Shared<Trail>,
 }
 
 /// A model under its name.
@@ -26,7 +27,7 @@ pub struct NamedSlot {
 }
 
 /// What a journal leaves: the number of its entries, their weight, and the models, ascending by
-/// name. Boards that follow one another share the contents that stayed.
+/// name. Boards that follow one another share the contents and the trails that stayed.
 #[derive(Drop)]
 pub struct Board {
     pub front: u64,
@@ -35,13 +36,14 @@ pub struct Board {
 }
 
 impl Slot {
-    /// The same content at a version. It is shared, not copied.
+    /// The same content and trail at a version. They are shared, not copied.
     fn at(&self, version: u64) -> Result<Slot, AllocError>
         ensures { IfOk result (λ slot. slot ≡ at_version version self.now) }
     {
         Ok(Slot {
             version,
             content: self.content.share()?,
+            trail: self.trail.share()?,
         })
     }
 }
@@ -86,6 +88,13 @@ fn position_of(models: &[NamedSlot], name: &Text) -> (usize, bool)
     (models.len(), false)
 }
 
+/// Takes the model of a name away.
+fn remove(models: &mut Vec<NamedSlot>, name: &Text)
+    ensures { models.new.items ≡ without name.now models.old.items }
+{
+    models.retain(|model| name.as_str() != model.name.as_str());
+}
+
 /// Puts a slot under its name, in place of one that is there.
 fn put(models: &mut Vec<NamedSlot>, name: Text, slot: Slot) -> Result<(), AllocError>
     ensures { OnOk result (models.new.items ≡ put name slot models.old.items) }
@@ -98,6 +107,28 @@ fn put(models: &mut Vec<NamedSlot>, name: Text, slot: Slot) -> Result<(), AllocE
         models.insert(at, model)?;
     }
     Ok(())
+}
+
+/// Makes a change of one of the models at a version.
+fn make(
+    alloc: Global,
+    models: &mut Vec<NamedSlot>,
+    version: u64,
+    change: &Changed,
+) -> Result<(), AllocError>
+    ensures { OnOk result (models.new.items
+        ≡ changed_to version models.old.items change.now.name change.now.slot) }
+{
+    match &change.slot {
+        Some(slot) => {
+            let name = change.name.copy(alloc)?;
+            put(models, name, slot.at(version)?)
+        }
+        None => {
+            remove(models, &change.name);
+            Ok(())
+        }
+    }
 }
 
 impl Board {
@@ -172,8 +203,7 @@ impl Board {
         };
         let mut models = copies(alloc, self.slots.as_slice())?;
         for change in slots {
-            let name = change.name.copy(alloc)?;
-            put(&mut models, name, change.slot.at(front)?)?;
+            make(alloc, &mut models, front, change)?;
         }
         Ok(Board {
             front,

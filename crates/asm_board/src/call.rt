@@ -2,7 +2,9 @@
 ghost use Rattle.std.specs.Prelude.{◌≡◌, ◌≤◌, sum_by, IfOk};
 ghost use Rattle.asm_portable.specs.Weights.{whole_weight};
 ghost use Rattle.asm_board.specs.Calls as spec;
+ghost use Rattle.asm_board.specs.declared.call.Call.TheVariants as calls;
 
+use asm_portable::Port;
 use asm_value::Text;
 use std::alloc::{AllocError, Global};
 
@@ -21,9 +23,15 @@ pub enum Call {
         name: Text,
         text: Text,
     },
-    /// A change: one step of the model that the formula names.
+    /// A change: the model goes.
+    Unload {
+        name: Text,
+    },
+    /// A change: one step of the model that the formula names. The inputs are fields by model, each
+    /// with fields by function.
     Step {
         formula: Text,
+        inputs: Port,
         pick: Option<u64>,
     },
     /// A read: what a model is.
@@ -32,6 +40,32 @@ pub enum Call {
     },
     /// A read: the models with their versions.
     Models,
+    /// A change: one more invariant of a model, the Boolean term of a text.
+    AddInvariant {
+        name: Text,
+        inv: Text,
+        term: Text,
+    },
+    /// A change: an invariant of a model goes.
+    DropInvariant {
+        name: Text,
+        inv: Text,
+    },
+    /// A change: a model is again what it was at an earlier version.
+    Rollback {
+        name: Text,
+        to: u64,
+    },
+}
+
+/// What inputs weigh, which are no field where there are none.
+fn inputs_weight(inputs: &Port) -> u64
+    ensures { result ≡ spec.capped (sum_by whole_weight (spec.inputs_field inputs.now)) }
+{
+    match inputs.fields() {
+        [] => 0,
+        [_, ..] => inputs.weight(),
+    }
 }
 
 /// What a pick weighs: 1 where it is there.
@@ -45,13 +79,55 @@ fn picked(pick: Option<u64>) -> u64
     }
 }
 
+/// Copies of two texts.
+fn both(alloc: Global, first: &Text, second: &Text) -> Result<(Text, Text), AllocError>
+    ensures { IfOk result (λ copies. copies ≡ (first.now, second.now)) }
+{
+    let first = first.copy(alloc)?;
+    Ok((first, second.copy(alloc)?))
+}
+
+/// A step with copies of these.
+fn copy_step(
+    alloc: Global,
+    formula: &Text,
+    inputs: &Port,
+    pick: Option<u64>,
+) -> Result<Call, AllocError>
+    ensures { IfOk result (λ call. call ≡ calls.Step formula.now inputs.now pick) }
+{
+    let formula = formula.copy(alloc)?;
+    Ok(Call::Step {
+        formula,
+        inputs: inputs.copy(alloc)?,
+        pick,
+    })
+}
+
+/// An invariant to be added, with copies of these.
+fn copy_invariant(alloc: Global, name: &Text, inv: &Text, term: &Text) -> Result<Call, AllocError>
+    ensures { IfOk result (λ call. call ≡ calls.AddInvariant name.now inv.now term.now) }
+{
+    let (name, inv) = both(alloc, name, inv)?;
+    Ok(Call::AddInvariant {
+        name,
+        inv,
+        term: term.copy(alloc)?,
+    })
+}
+
 impl Call {
     /// Whether it may change the models. Takes no memory.
     pub fn is_change(&self) -> bool
         ensures { result ≡ spec.is_change self.now }
     {
         match self {
-            Call::Load { .. } | Call::Step { .. } => true,
+            Call::Load { .. }
+            | Call::Unload { .. }
+            | Call::Step { .. }
+            | Call::AddInvariant { .. }
+            | Call::DropInvariant { .. }
+            | Call::Rollback { .. } => true,
             Call::Run { .. } | Call::State { .. } | Call::Models => false,
         }
     }
@@ -67,9 +143,26 @@ impl Call {
                 .weight()
                 .saturating_add(text.weight())
                 .saturating_add(1),
-            Call::Step { formula, pick } => formula.weight().saturating_add(1 + picked(*pick)),
-            Call::State { name } => name.weight().saturating_add(1),
+            Call::Unload { name } | Call::State { name } => name.weight().saturating_add(1),
+            Call::Step {
+                formula,
+                inputs,
+                pick,
+            } => formula
+                .weight()
+                .saturating_add(inputs_weight(inputs))
+                .saturating_add(1 + picked(*pick)),
             Call::Models => 1,
+            Call::AddInvariant { name, inv, term } => name
+                .weight()
+                .saturating_add(inv.weight())
+                .saturating_add(term.weight())
+                .saturating_add(1),
+            Call::DropInvariant { name, inv } => name
+                .weight()
+                .saturating_add(inv.weight())
+                .saturating_add(1),
+            Call::Rollback { name, .. } => name.weight().saturating_add(2),
         }
     }
 
@@ -77,24 +170,37 @@ impl Call {
     pub fn copy(&self, alloc: Global) -> Result<Call, AllocError>
         ensures { IfOk result (λ call. call ≡ self.now) }
     {
-        Ok(match self {
-            Call::Run { text, steps, pick } => Call::Run {
+        match self {
+            Call::Run { text, steps, pick } => Ok(Call::Run {
                 text: text.copy(alloc)?,
                 steps: *steps,
                 pick: *pick,
-            },
-            Call::Load { name, text } => Call::Load {
+            }),
+            Call::Load { name, text } => {
+                let (name, text) = both(alloc, name, text)?;
+                Ok(Call::Load { name, text })
+            }
+            Call::Unload { name } => Ok(Call::Unload {
                 name: name.copy(alloc)?,
-                text: text.copy(alloc)?,
-            },
-            Call::Step { formula, pick } => Call::Step {
-                formula: formula.copy(alloc)?,
-                pick: *pick,
-            },
-            Call::State { name } => Call::State {
+            }),
+            Call::Step {
+                formula,
+                inputs,
+                pick,
+            } => copy_step(alloc, formula, inputs, *pick),
+            Call::State { name } => Ok(Call::State {
                 name: name.copy(alloc)?,
-            },
-            Call::Models => Call::Models,
-        })
+            }),
+            Call::Models => Ok(Call::Models),
+            Call::AddInvariant { name, inv, term } => copy_invariant(alloc, name, inv, term),
+            Call::DropInvariant { name, inv } => {
+                let (name, inv) = both(alloc, name, inv)?;
+                Ok(Call::DropInvariant { name, inv })
+            }
+            Call::Rollback { name, to } => Ok(Call::Rollback {
+                name: name.copy(alloc)?,
+                to: *to,
+            }),
+        }
     }
 }

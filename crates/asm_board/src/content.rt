@@ -1,16 +1,19 @@
 //! Contents: what a model is at one version.
 ghost use Rattle.std.specs.Prelude.{◌≡◌};
+ghost use Rattle.asm_board.specs.Contents.{IsContent};
 
-use crate::shared::Shared;
-use asm_program::Program;
+use asm_program::{Inv, Program};
 use asm_state::State;
+use asm_value::{List, Shared};
 use std::marker::Model;
 
-/// A program and a state of it. Contracts see it as these two.
+/// A program, its invariants with those that were added to them, and a state that weighs at most
+/// 65,536 and in which each invariant holds. Contracts see it as these three.
 #[derive(Drop)]
 pub struct Content {
     program: Shared<Program>,
-    state: State,
+    invs: Shared<List<Shared<Inv>>>,
+    state: Shared<State>,
 }
 
 impl Model for Content {
@@ -22,7 +25,7 @@ impl Model for Content {
     ghost use Rattle.asm_value.specs.contracts.location.Location as location;
     ghost use Rattle.asm_value.specs.Location.{location_cmp};
     ghost use Rattle.std.specs.FinMap as map;
-    ghost use Rattle.asm_board.specs.Contents.{Contents};
+    ghost use Rattle.asm_board.specs.Contents.{Contents, IsContent};
 
     ghost Value = { Contents };
 
@@ -35,27 +38,51 @@ impl Model for Content {
       map.code {R = location_cmp} location.the_row.coded value.the_row.coded,
     ) };
 
-    ghost view = { λ c. record { program = c.program; state = c.state } };
+    ghost view = { λ c. record { program = c.program; invs = c.invs; state = c.state } };
+
+    ghost invariant = { λ c. IsContent (record {
+      program = c.program;
+      invs = c.invs;
+      state = c.state;
+    }) };
 }
 
 impl Content {
-    /// A program in a state.
-    pub fn new(program: Shared<Program>, state: State) -> Content
-        ensures { result ≡ record { program = program; state = state } }
+    /// A program with these invariants in a state.
+    pub fn new(
+        program: Shared<Program>,
+        invs: Shared<List<Shared<Inv>>>,
+        state: Shared<State>,
+    ) -> Content
+        requires { IsContent (record { program = program; invs = invs; state = state }) }
+        ensures { result ≡ record { program = program; invs = invs; state = state } }
     {
-        Content { program, state }
+        Content {
+            program,
+            invs,
+            state,
+        }
     }
 
-    /// The program, which other contents may have too.
+    /// Lends the program. Takes no memory.
     pub fn program(&self) -> &Shared<Program>
         ensures { result.now ≡ self.now.program }
     {
         &self.program
     }
 
-    /// The state.
-    pub fn state(&self) -> &State
-        ensures { result.now ≡ self.now.state }
+    /// Lends the invariants: those of the program's text as far as they weren't dropped, in text
+    /// order, and then those that were added. Takes no memory.
+    pub fn invs(&self) -> &Shared<List<Shared<Inv>>>
+        ensures { result.now ≡ self.now.invs }
+    {
+        &self.invs
+    }
+
+    /// Lends the state. Takes no memory.
+    pub fn state(&self) -> &Shared<State>
+        ensures state { result.now ≡ self.now.state }
+        ensures whole { IsContent self.now }
     {
         &self.state
     }

@@ -1,22 +1,26 @@
 //! Laws of journals, steps and models, over the definitions alone: each function does nothing.
-ghost use Rattle.std.specs.Prelude.{ℕ, ◌≡◌, ◌≤◌, ◌↔◌, List, ◌++◌, map, length, Option, option_to_list, Some, None, Ok, Err, All, IsSome};
+ghost use Rattle.std.specs.Prelude.{ℕ, ◌≡◌, ◌≢◌, ◌≤◌, ◌+◌, ◌↔◌, List, ◌++◌, map, length, Option, option_to_list, Some, None, Ok, Err, All, IsSome};
 ghost use Rattle.std.specs.List.{Contains};
 ghost use Rattle.asm_value.specs.declared.value.Value.{Value};
 ghost use Rattle.asm_value.specs.declared.location.Location.{Location};
 ghost use Rattle.asm_value.specs.declared.location.Update.{Update};
 ghost use Rattle.asm_value.specs.UpdateSet.{UpdateSet, items};
 ghost use Rattle.asm_value.specs.State.{StateMap, IsConsistent, IsClash};
+ghost use Rattle.asm_program.specs.declared.program.Inv.{Inv};
 ghost use Rattle.asm_program.specs.declared.program.Program.{Program};
+ghost use Rattle.asm_program.specs.Invariants.{first_broken, AllHold};
+ghost use Rattle.asm_portable.specs.declared.port.Port.{Port};
 ghost use Rattle.asm_portable.specs.declared.port.Field.{Field};
 ghost use Rattle.asm_portable.specs.Ports.{AscendByKey};
 ghost use Rattle.asm_board.specs.declared.board.Board.{Board};
+ghost use Rattle.asm_board.specs.declared.board.Slot.{Slot};
 ghost use Rattle.asm_board.specs.declared.call.Call.{Call};
 ghost use Rattle.asm_board.specs.declared.call.Call.TheVariants.{Step, Models as ListModels};
 ghost use Rattle.asm_board.specs.declared.entry.Entry.{Entry};
 ghost use Rattle.asm_board.specs.declared.refusal.Refusal.{Refusal};
 ghost use Rattle.asm_board.specs.declared.reply.Body.TheVariants as bodies;
 ghost use Rattle.asm_board.specs.Meanings.{Meanings};
-ghost use Rattle.asm_board.specs.Contents.{first_clash};
+ghost use Rattle.asm_board.specs.Stepping.{first_clash};
 ghost use Rattle.asm_board.specs.Calls.{footprint};
 ghost use Rattle.asm_board.specs.Slots.{Models, AscendByName, slot_in};
 ghost use Rattle.asm_board.specs.Changes.{Accepted, change};
@@ -26,6 +30,8 @@ ghost use Rattle.asm_board.specs.Shown.{functions_listed, models_shown, IsDefine
 ghost use Rattle.asm_board.specs.Numbers.{TellsItsNumber};
 ghost use Rattle.asm_board.specs.Journals.{IsAcceptedChange, PreparedStillStands, entries_weight};
 ghost use Rattle.asm_board.specs.Steps.{FiresItsSet, StepsAlone};
+ghost use Rattle.asm_board.specs.Sources.{EachKeepsSources};
+ghost use Rattle.asm_board.specs.Trails.{EachMeetsItsInvariants, EachHasFewPairs, Follows, Remembers, Begins};
 
 // ---- journals
 
@@ -87,7 +93,8 @@ pub fn still_stands(room: u64)
 
 // ---- models
 
-/// An entry of any call leaves each model outside its footprint as it was, version and content.
+/// An entry of any call leaves each model outside its footprint as it was: version, content and
+/// trail.
 pub fn a_change_leaves_other_models_as_they_were()
     ensures { (m : Meanings) (board : Board) (entry : Entry) (name : List ℕ) →
         (Contains (footprint entry.call) name → ⊥) →
@@ -117,13 +124,59 @@ pub fn a_state_shows_its_defined_functions()
         IsDefinedFunction program state shown → Contains (functions_listed program state) shown }
 {}
 
+// ---- invariants and trails
+
+/// No invariant is the first broken one exactly where all hold.
+pub fn none_is_broken_exactly_where_all_hold()
+    ensures { (program : Program) (state : StateMap) (invs : List Inv) →
+        (first_broken program state invs ≡ None) ↔ AllHold program state invs }
+{}
+
+/// Each model of any journal's board has a state that weighs at most 65,536 and meets its
+/// invariants, and so has each earlier content that it remembers.
+pub fn each_model_meets_its_invariants()
+    ensures { (m : Meanings) (journal : List Entry) →
+        EachMeetsItsInvariants (board_of m journal).slots }
+{}
+
+/// Each invariant of each model of any journal's board, and of each earlier content that it
+/// remembers, is one of its program's text, or was added, and its source is the text of its Boolean
+/// term over the program.
+#[tactic(auto, using(crate::proofs::Sources::each_keeps))]
+pub fn each_invariant_has_its_source()
+    ensures { (m : Meanings) (journal : List Entry) →
+        EachKeepsSources m (board_of m journal).slots }
+{}
+
+/// No model of any journal's board remembers more than 16 earlier contents.
+pub fn a_trail_has_at_most_16_pairs()
+    ensures { (m : Meanings) (journal : List Entry) → EachHasFewPairs (board_of m journal).slots }
+{}
+
+/// An entry leaves a model as it was, takes it away, or gives it a new content at the entry's
+/// number. Then what it was before is its newest pair, and a model that is new has none.
+pub fn a_change_remembers_what_was_before()
+    ensures follows { (m : Meanings) (board : Board) (entry : Entry) (name : List ℕ) →
+        Follows (board.front + 1) (slot_in board.slots name)
+        (slot_in (applied m board entry).slots name) }
+    ensures changed { (m : Meanings) (board : Board) (entry : Entry) (name : List ℕ)
+        (earlier later : Slot) → slot_in board.slots name ≡ Some earlier →
+        slot_in (applied m board entry).slots name ≡ Some later → later ≢ earlier →
+        Remembers (board.front + 1) earlier later }
+    ensures loaded { (m : Meanings) (board : Board) (entry : Entry) (name : List ℕ)
+        (later : Slot) → slot_in board.slots name ≡ None →
+        slot_in (applied m board entry).slots name ≡ Some later →
+        Begins (board.front + 1) later }
+{}
+
 // ---- steps
 
-/// A step that is accepted fires the consistent set that its model's main rule yields for the pick.
+/// A step that is accepted fires the consistent set that its model's main rule yields for the pick
+/// with the inputs, into a state that is light and meets the model's invariants.
 pub fn an_accepted_step_fires_a_consistent_set()
-    ensures { (m : Meanings) (models : Models) (name : List ℕ) (pick : Option ℕ)
-        (step : Accepted) → change m models (Step name pick) ≡ Ok step
-        → FiresItsSet m models name pick step }
+    ensures { (m : Meanings) (models : Models) (name : List ℕ) (inputs : Port) (pick : Option ℕ)
+        (step : Accepted) → change m models (Step name inputs pick) ≡ Ok step
+        → FiresItsSet m models name inputs pick step }
 {}
 
 /// A change that is refused makes no entry, so the board stays as it is.
@@ -134,12 +187,13 @@ pub fn a_refused_change_makes_no_entry(room: u64)
     let _ = room;
 }
 
-/// The entry of a step leaves its model with a consistent set fired, and each other model as it
-/// was.
+/// The entry of a step leaves its model with a consistent set fired, and what it was before as its
+/// newest pair, and each other model as it was.
 pub fn a_step_changes_its_model_alone(room: u64)
-    ensures { (m : Meanings) (board : Board) (seat : ℕ) (name : List ℕ) (pick : Option ℕ)
-        (entry : Entry) → (answer_at m room board seat (Step name pick)).entry ≡ Some entry
-        → StepsAlone m board name pick entry }
+    ensures { (m : Meanings) (board : Board) (seat : ℕ) (name : List ℕ) (inputs : Port)
+        (pick : Option ℕ) (entry : Entry)
+        → (answer_at m room board seat (Step name inputs pick)).entry ≡ Some entry
+        → StepsAlone m board name inputs pick entry }
 {
     let _ = room;
 }

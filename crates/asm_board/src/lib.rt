@@ -12,24 +12,30 @@ mod outcome;
 mod prepared;
 mod refusal;
 mod reply;
-mod shared;
+mod stepped;
+mod stop;
+mod trail;
 
 pub use board::{Board, NamedSlot, Slot};
 pub use call::Call;
 pub use content::Content;
 pub use entry::Entry;
 pub use laws::{
-    a_change_leaves_other_models_as_they_were, a_first_clash_is_a_clash, a_journal_grows_legally,
-    a_journal_weighs_what_its_entries_do, a_refused_change_makes_no_entry,
-    a_state_shows_its_defined_functions, a_step_changes_its_model_alone,
+    a_change_leaves_other_models_as_they_were, a_change_remembers_what_was_before,
+    a_first_clash_is_a_clash, a_journal_grows_legally, a_journal_weighs_what_its_entries_do,
+    a_refused_change_makes_no_entry, a_state_shows_its_defined_functions,
+    a_step_changes_its_model_alone, a_trail_has_at_most_16_pairs,
     an_accepted_step_fires_a_consistent_set,
     an_answer_has_an_entry_exactly_where_it_is_an_accepted_change, an_answer_tells_its_number,
-    each_entry_is_an_accepted_change, models_ascend_by_name, still_stands,
-    the_first_clash_is_the_clash,
+    each_entry_is_an_accepted_change, each_invariant_has_its_source,
+    each_model_meets_its_invariants, models_ascend_by_name, none_is_broken_exactly_where_all_hold,
+    still_stands, the_first_clash_is_the_clash,
 };
 pub use names::is_identifier;
 pub use outcome::{Next, Outcome};
 pub use prepared::{Changed, NameVersion, Prepared};
 pub use refusal::{Refusal, RefusalName};
 pub use reply::{Body, Reply};
-pub use shared::Shared;
+pub use stepped::Stepped;
+pub use stop::Stop;
+pub use trail::{Trail, TrailPair};

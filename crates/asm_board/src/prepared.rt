@@ -14,11 +14,12 @@ pub struct NameVersion {
     pub version: u64,
 }
 
-/// A model's new slot. Its version is 0, in whose place the commit puts the entry's number.
+/// A model's new slot, none where the model goes. Its version is 0, in whose place the commit puts
+/// the entry's number.
 #[derive(Drop)]
 pub struct Changed {
     pub name: Text,
-    pub slot: Slot,
+    pub slot: Option<Slot>,
 }
 
 /// What a call comes to at one board, were there room for its entry.

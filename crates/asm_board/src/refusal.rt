@@ -34,10 +34,22 @@ pub enum RefusalName {
     InitFault,
     /// A state weighs more than 65,536.
     StateFull,
+    /// A state breaks an invariant of its model.
+    Broken,
+    /// What is given for a function doesn't fit.
+    BadInput,
     /// A step has a fault.
     Fault,
     /// A step's update set gives one location two values.
     Clash,
+    /// The model has an invariant of this name.
+    InvTaken,
+    /// The model has no invariant of this name.
+    UnknownInv,
+    /// The model has as many invariants as may be.
+    InvsFull,
+    /// The version isn't among the earlier ones that are kept.
+    NotInTrail,
     /// The journal has no room for the entry.
     JournalFull,
 }
@@ -59,8 +71,14 @@ impl RefusalName {
             RefusalName::UnknownModel => "UnknownModel",
             RefusalName::InitFault => "InitFault",
             RefusalName::StateFull => "StateFull",
+            RefusalName::Broken => "Broken",
+            RefusalName::BadInput => "BadInput",
             RefusalName::Fault => "Fault",
             RefusalName::Clash => "Clash",
+            RefusalName::InvTaken => "InvTaken",
+            RefusalName::UnknownInv => "UnknownInv",
+            RefusalName::InvsFull => "InvsFull",
+            RefusalName::NotInTrail => "NotInTrail",
             RefusalName::JournalFull => "JournalFull",
         }
     }
@@ -190,6 +208,74 @@ impl Refusal {
     {
         let fields = one_text(alloc, "model", name)?;
         Ok(Refusal::with_fields(RefusalName::UnknownModel, fields))
+    }
+
+    /// The refusal of what is given for a function of a model; the function's name is empty where
+    /// it is given for a model that doesn't step.
+    pub fn bad_input(alloc: Global, function: &str, model: &str) -> Result<Refusal, AllocError>
+        ensures { IfOk result (λ refusal. refusal ≡ spec.bad_input function.now model.now) }
+    {
+        let mut fields = List::new(alloc);
+        push_text(alloc, &mut fields, "function", function)?;
+        push_text(alloc, &mut fields, "model", model)?;
+        Ok(Refusal::with_fields(RefusalName::BadInput, fields))
+    }
+
+    /// The refusal, under this name, of an invariant of a model.
+    fn of_invariant(
+        alloc: Global,
+        name: RefusalName,
+        inv: &str,
+        model: &str,
+    ) -> Result<Refusal, AllocError>
+        ensures { IfOk result (λ refusal. refusal ≡ spec.invariant_of name inv.now model.now) }
+    {
+        let mut fields = List::new(alloc);
+        push_text(alloc, &mut fields, "inv", inv)?;
+        push_text(alloc, &mut fields, "model", model)?;
+        Ok(Refusal::with_fields(name, fields))
+    }
+
+    /// The refusal of an invariant under a name that one of the model has.
+    pub fn inv_taken(alloc: Global, inv: &str, model: &str) -> Result<Refusal, AllocError>
+        ensures { IfOk result (λ refusal. refusal ≡ spec.inv_taken inv.now model.now) }
+    {
+        Refusal::of_invariant(alloc, RefusalName::InvTaken, inv, model)
+    }
+
+    /// The refusal of a name that no invariant of the model has.
+    pub fn unknown_inv(alloc: Global, inv: &str, model: &str) -> Result<Refusal, AllocError>
+        ensures { IfOk result (λ refusal. refusal ≡ spec.unknown_inv inv.now model.now) }
+    {
+        Refusal::of_invariant(alloc, RefusalName::UnknownInv, inv, model)
+    }
+
+    /// The refusal of one more invariant of a model than the limit.
+    pub fn invs_full(alloc: Global, limit: u64, model: &str) -> Result<Refusal, AllocError>
+        ensures { IfOk result (λ refusal. refusal ≡ spec.invs_full limit model.now) }
+    {
+        let mut fields = List::new(alloc);
+        push_field(alloc, &mut fields, "limit", Port::from_number(limit))?;
+        push_text(alloc, &mut fields, "model", model)?;
+        Ok(Refusal::with_fields(RefusalName::InvsFull, fields))
+    }
+
+    /// The refusal of a version that isn't among the earlier ones of a model, of which these are
+    /// the newest and the oldest; both are 0 where there are none.
+    pub fn not_in_trail(
+        alloc: Global,
+        model: &str,
+        newest: u64,
+        oldest: u64,
+    ) -> Result<Refusal, AllocError>
+        ensures { IfOk result
+            (λ refusal. refusal ≡ spec.not_in_trail model.now newest oldest) }
+    {
+        let mut fields = List::new(alloc);
+        push_text(alloc, &mut fields, "model", model)?;
+        push_field(alloc, &mut fields, "newest", Port::from_number(newest))?;
+        push_field(alloc, &mut fields, "oldest", Port::from_number(oldest))?;
+        Ok(Refusal::with_fields(RefusalName::NotInTrail, fields))
     }
 
     /// The refusal of an entry that adds more to the journal's weight than there is room for.
