@@ -1,0 +1,2 @@
+-- What stands behind what.
+pub mod Behind

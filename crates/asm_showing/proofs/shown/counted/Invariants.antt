@@ -1,0 +1,8 @@
+use Rattle.std.proofs.Common.{◌≡◌, drop}
+use Rattle.asm_portable.specs.Ports.{ascending}
+use Rattle.asm_board.specs.Shown as spec
+use Rattle.asm_showing.proofs.shown.counted.Given as goal
+
+-- the domains from this one on are shown
+abbrev pub invariant-loop-number : goal.invariant-loop-number
+invariant-loop-number l = l.fields.items ≡ ascending (spec.counted l.state l.number (drop l.number l.program.domains))
