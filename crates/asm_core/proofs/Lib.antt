@@ -1,8 +1,9 @@
-pub mod Kept
-pub mod Standing
 pub mod Answered
-pub mod Pairs
-pub mod Reported
-pub mod Stepping
-pub mod Refused
+pub mod Holding
+pub mod Kept
+pub mod Newest
 pub mod Runs
+pub mod Sources
+pub mod Standing
+pub mod Stepping
+pub mod Works

@@ -1,19 +1,23 @@
 -- What was prepared stands for its call at its board.
-use Rattle.std.proofs.Common.{◌≡◌, ℕ, Bool, false, cond, ◌&&◌, List, [], ◌∷◌, ◌++◌, Option, Some, None, Result, Ok, Err, IfOk, is_none, codes, refl, sym, ap, ◌∙◌}
+use Rattle.std.proofs.Common.{◌≡◌, ℕ, Bool, true, false, cond, ◌&&◌, not, nat_lt, List, [], ◌∷◌, ◌++◌, length, Option, Some, None, Result, Ok, Err, IfOk, is_none, codes, refl, sym, ap, ◌∙◌}
 use Rattle.std.specs.Cmp.Lexicographic.{bytes_decides}
-use Rattle.asm_portable.specs.Ports.{text}
+use Rattle.asm_portable.specs.declared.port.Port.{Port}
+use Rattle.asm_portable.specs.Ports.{fields_of}
 use Rattle.asm_board.specs.declared.board.Board.{Board}
 use Rattle.asm_board.specs.declared.board.Slot.{Slot}
-use Rattle.asm_board.specs.declared.call.Call.TheVariants.{Run, Load, Step, State, Models as AllModels}
+use Rattle.asm_board.specs.declared.call.Call.{Call}
+use Rattle.asm_board.specs.declared.call.Call.TheVariants.{Run, Load, Unload, Step, State, Models as AllModels, AddInvariant, DropInvariant, Rollback}
 use Rattle.asm_board.specs.declared.prepared.Prepared.{Prepared}
 use Rattle.asm_board.specs.Meanings.{Meanings}
-use Rattle.asm_board.specs.Refusals.{after, needs, is_there, of_model, bad_name, name_taken, unknown_model}
+use Rattle.asm_board.specs.Calls.{footprint, is_change}
+use Rattle.asm_board.specs.Inputs.{given}
+use Rattle.asm_board.specs.Refusals.{Tried, after, needs, is_there, of_model, bad_name, name_taken, unknown_model, inv_taken, invs_full, unknown_inv}
 use Rattle.asm_board.specs.Replies.{tail_of}
 use Rattle.asm_board.specs.Shown.{out_shown}
-use Rattle.asm_board.specs.Slots.{Models, named, slot_in, version_or_zero, listed, only}
-use Rattle.asm_board.specs.Changes.{Change, is_right_name, program_in, started, stepped, accepted, becomes, with_state, load, step_model}
+use Rattle.asm_board.specs.Slots.{Models, named, slot_in, version_or_zero, listed, only, versions_in}
+use Rattle.asm_board.specs.Changes.{Change, is_right_name, loaded, stepped_from, added, content_at, has_invariant, invariant_limit, lacks_version, without_invariant, accepted, done, becomes, goes, change}
 use Rattle.asm_board.specs.Reads.{read}
-use Rattle.asm_board.specs.Boards.{body_of_change, body_of_read, slots_of_change, weight_of_change}
+use Rattle.asm_board.specs.Boards.{body_of_change, body_of_read, slots_of_change, weight_of_change, is_new_model, spoken_of, loads_at, change_at}
 use Rattle.asm_board.specs.Answers.{Stands}
 use Rattle.asm_core.specs.Preparing.{read_made, change_made}
 
@@ -33,59 +37,83 @@ only_listed name (Some slot) = found_there name slot
 only_one : (models : Models) (name : List ℕ) → slot_in (only models (name ∷ [])) name ≡ slot_in models name
 only_one models name = only_listed name (slot_in models name)
 
--- a load and a step, by the slot of their name
+-- each change, by the slot of its name
 load_of : Meanings → List ℕ → List ℕ → Option Slot → Change
 load_of m name source o =
     after (needs (is_right_name name) bad_name) (λ _.
     after (needs (is_none o) (name_taken name (version_or_zero o))) (λ _.
-    after (program_in m source) (λ program.
-    after (started m (of_model name) program) (λ state.
-    accepted (text (codes "loaded")) (becomes name (with_state program state))))))
+    after (loaded m name source) (λ content.
+    done (codes "loaded") (becomes name content))))
 
-step_of : Meanings → List ℕ → Option ℕ → Option Slot → Change
-step_of m name pick o =
+unload_of : List ℕ → Option Slot → Change
+unload_of name o =
+    after (is_there o (unknown_model name)) (λ _.
+    done (codes "unloaded") (goes name))
+
+step_of : Meanings → List ℕ → Port → Option ℕ → Option Slot → Change
+step_of m name inputs pick o =
     after (is_there o (unknown_model name)) (λ slot.
-    after (stepped m (of_model name) pick slot.content.program slot.content.state) (λ state.
-    accepted (out_shown name) (becomes name (with_state slot.content.program state))))
+    after (given name slot.content (fields_of inputs)) (λ updates.
+    after (stepped_from m (of_model name) pick slot.content updates) (λ content.
+    accepted (out_shown name content) (becomes name content))))
 
-load_spoken : (m : Meanings) (models : Models) (name source : List ℕ) → load m models name source ≡ load m (only models (name ∷ [])) name source
-unfolding load_of
-load_spoken m models name source = ap (load_of m name source) (sym (only_one models name))
+add_of : Meanings → List ℕ → List ℕ → List ℕ → Option Slot → Change
+add_of m name inv source o =
+    after (is_there o (unknown_model name)) (λ slot.
+    after (needs (not (has_invariant slot.content inv)) (inv_taken inv name)) (λ _.
+    after (needs (nat_lt (length slot.content.invs) invariant_limit) (invs_full invariant_limit name)) (λ _.
+    after (added m name slot.content inv source) (λ new.
+    done (codes "added") (becomes name new)))))
 
-step_spoken : (m : Meanings) (models : Models) (name : List ℕ) (pick : Option ℕ) → step_model m models name pick ≡ step_model m (only models (name ∷ [])) name pick
-unfolding step_of
-step_spoken m models name pick = ap (step_of m name pick) (sym (only_one models name))
+drop_of : List ℕ → List ℕ → Option Slot → Change
+drop_of name inv o =
+    after (is_there o (unknown_model name)) (λ slot.
+    after (needs (has_invariant slot.content inv) (unknown_inv inv name)) (λ _.
+    done (codes "dropped") (becomes name (without_invariant slot.content inv))))
+
+rollback_of : List ℕ → ℕ → Option Slot → Change
+rollback_of name to o =
+    after (is_there o (unknown_model name)) (λ slot.
+    after (is_there (content_at slot to) (lacks_version name slot)) (λ content.
+    done (codes "rolled") (becomes name content)))
+
+-- a change depends on the models alone of which it speaks
+pub same_change : (m : Meanings) (models : Models) (c : Call) → change m models c ≡ change m (only models (footprint c)) c
+unfolding load_of unload_of step_of add_of drop_of rollback_of
+same_change m models (Load name source) = ap (load_of m name source) (sym (only_one models name))
+same_change m models (Unload name) = ap (unload_of name) (sym (only_one models name))
+same_change m models (Step name inputs pick) = ap (step_of m name inputs pick) (sym (only_one models name))
+same_change m models (AddInvariant name inv source) = ap (add_of m name inv source) (sym (only_one models name))
+same_change m models (DropInvariant name inv) = ap (drop_of name inv) (sym (only_one models name))
+same_change m models (Rollback name to) = ap (rollback_of name to) (sym (only_one models name))
+same_change m models (Run source steps pick) = refl
+same_change m models (State name) = refl
+same_change m models AllModels = refl
 
 -- ---- changes
 
-pub stands_load : (m : Meanings) (board : Board) (name source : List ℕ) (loads : Bool) (p : Prepared)
-    → loads ≡ (is_right_name name && is_none (slot_in board.slots name))
-    → p ≡ change_made board (Load name source) name loads (load m board.slots name source) → Stands m p (Load name source) board
-stands_load m board name source loads p new is =
-    let spoken = load_spoken m board.slots name source in
-    record {
-      is_call = ap (λ (q : Prepared). q.call) is;
-      versions = ap (λ (q : Prepared). q.versions) is;
-      body = ap (λ (q : Prepared). q.body) is ∙ ap body_of_change spoken;
-      tail = ap (λ (q : Prepared). q.tail) is ∙ ap (λ c. tail_of (body_of_change c)) spoken;
-      slots = ap (λ (q : Prepared). q.slots) is ∙ ap slots_of_change spoken;
-      loads = ap (λ (q : Prepared). q.loads) is ∙ new ∙ ap (λ o. is_right_name name && is_none o) (sym (only_one board.slots name));
-      weight = ap (λ (q : Prepared). q.weight) is ∙ ap (weight_of_change (Load name source)) spoken;
-    }
+module _ (m : Meanings) (board : Board) (c : Call) (name : List ℕ) (loads : Bool) (p : Prepared) where
+  pub stands_change : footprint c ≡ name ∷ [] → is_change c ≡ true → loads ≡ loads_at board c → p ≡ change_made board c name loads (change m board.slots c) → Stands m p c board
+  stands_change speaks changes new is =
+      let spoken : change m board.slots c ≡ change_at m board c = same_change m board.slots c in
+      let names : only board.slots (name ∷ []) ≡ spoken_of board c = ap (only board.slots) (sym speaks) in
+      record {
+        is_call = ap (λ (q : Prepared). q.call) is;
+        versions = ap (λ (q : Prepared). q.versions) is ∙ ap (versions_in board.slots) (sym speaks);
+        body = ap (λ (q : Prepared). q.body) is ∙ ap body_of_change spoken
+            ∙ sym (ap (λ t. cond t (body_of_change (change_at m board c)) (body_of_read (read m board.slots c))) changes);
+        tail = ap (λ (q : Prepared). q.tail) is ∙ ap (λ r. tail_of (body_of_change r)) spoken
+            ∙ sym (ap (λ t. tail_of (cond t (body_of_change (change_at m board c)) (body_of_read (read m board.slots c)))) changes);
+        slots = ap (λ (q : Prepared). q.slots) is ∙ (λ i. slots_of_change (names i) (spoken i))
+            ∙ sym (ap (λ t. cond t (slots_of_change (spoken_of board c) (change_at m board c)) []) changes);
+        loads = ap (λ (q : Prepared). q.loads) is ∙ new;
+        weight = ap (λ (q : Prepared). q.weight) is ∙ ap (weight_of_change c) spoken
+            ∙ sym (ap (λ t. cond t (weight_of_change c (change_at m board c)) 0) changes);
+      }
 
-pub stands_step : (m : Meanings) (board : Board) (name : List ℕ) (pick : Option ℕ) (p : Prepared)
-    → p ≡ change_made board (Step name pick) name false (step_model m board.slots name pick) → Stands m p (Step name pick) board
-stands_step m board name pick p is =
-    let spoken = step_spoken m board.slots name pick in
-    record {
-      is_call = ap (λ (q : Prepared). q.call) is;
-      versions = ap (λ (q : Prepared). q.versions) is;
-      body = ap (λ (q : Prepared). q.body) is ∙ ap body_of_change spoken;
-      tail = ap (λ (q : Prepared). q.tail) is ∙ ap (λ c. tail_of (body_of_change c)) spoken;
-      slots = ap (λ (q : Prepared). q.slots) is ∙ ap slots_of_change spoken;
-      loads = ap (λ (q : Prepared). q.loads) is;
-      weight = ap (λ (q : Prepared). q.weight) is ∙ ap (weight_of_change (Step name pick)) spoken;
-    }
+-- a load is new where there is no model of its name
+pub loads_new : (board : Board) (name source : List ℕ) (loads : Bool) → loads ≡ (is_right_name name && is_none (slot_in board.slots name)) → loads ≡ loads_at board (Load name source)
+loads_new board name source loads new = new ∙ ap (λ o. is_right_name name && is_none o) (sym (only_one board.slots name))
 
 -- ---- reads
 

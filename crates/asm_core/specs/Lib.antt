@@ -1,5 +1,5 @@
 pub mod Language
 pub mod Preparing
-pub mod Showing
 pub mod Servers
+pub mod Works
 pub mod World

@@ -1,35 +1,27 @@
 -- What a call is prepared to, by what it comes to at the board.
-use Rattle.std.specs.Prelude.{◌≡◌, ℕ, Bool, false, List, [], ◌∷◌, Result, Ok, Err, ⊤}
+use Rattle.std.specs.Prelude.{ℕ, Bool, false, List, [], ◌∷◌}
 use Rattle.asm_board.specs.declared.board.Board.{Board}
 use Rattle.asm_board.specs.declared.call.Call.{Call}
 use Rattle.asm_board.specs.declared.reply.Body.{Body}
 use Rattle.asm_board.specs.declared.prepared.Prepared.{Prepared}
-use Rattle.asm_board.specs.Refusals.{Tried}
 use Rattle.asm_board.specs.Replies.{tail_of}
-use Rattle.asm_board.specs.Slots.{versions_in}
+use Rattle.asm_board.specs.Slots.{Models, only, versions_in}
 use Rattle.asm_board.specs.Changes as changes
 use Rattle.asm_board.specs.Changes.{Change}
 use Rattle.asm_board.specs.Boards.{body_of_change, slots_of_change, weight_of_change}
-use Rattle.asm_core.specs.declared.stop.Stop.{Stop}
-use Rattle.asm_core.specs.declared.stop.Stop.TheVariants as stops
 use Rattle.asm_core.specs.declared.changes.Accepted.{Accepted}
 use Rattle.asm_core.specs.declared.preparation.Effect.{Effect}
 
--- what was tried is found, or refused for this reason, unless memory ran out
-abbrev pub Comes : {A B : Type 0} → (A → B) → Tried B → Result A Stop → Type 0
-Comes view tried (Ok x) = tried ≡ Ok (view x)
-Comes view tried (Err (stops.Refused why)) = tried ≡ Err why
-Comes view tried (Err stops.NoMemory) = ⊤
-
--- an accepted change, as the definitions have it
-abbrev pub accepted_of : Accepted → changes.Accepted
-accepted_of a = record { ok = a.ok; news = changes.becomes a.name a.content }
+-- an accepted change of the model of a name, as the definitions have it
+abbrev pub accepted_of : List ℕ → Accepted → changes.Accepted
+accepted_of name a =
+    record { ok = a.ok; news = record { name = name; content = a.content } ∷ [] }
 
 -- what a change has for its entry
-abbrev pub effect_of : Call → Change → Effect
-effect_of call change = record {
+abbrev pub effect_of : Models → Call → Change → Effect
+effect_of models call change = record {
   body = body_of_change change;
-  slots = slots_of_change change;
+  slots = slots_of_change models change;
   weight = weight_of_change call change;
 }
 
@@ -52,7 +44,7 @@ change_made board call name loads change = record {
   versions = versions_in board.slots (name ∷ []);
   body = body_of_change change;
   tail = tail_of (body_of_change change);
-  slots = slots_of_change change;
+  slots = slots_of_change (only board.slots (name ∷ [])) change;
   loads = loads;
   weight = weight_of_change call change;
 }

@@ -1,25 +1,29 @@
 //! Calls prepared at a board.
-ghost use Rattle.std.specs.Prelude.{◌≡◌, ◌&&◌, [], ◌∷◌, is_none, IfOk};
+ghost use Rattle.std.specs.Prelude.{◌≡◌, ◌&&◌, true, false, [], ◌∷◌, is_none, option_map, IfOk};
 ghost use Rattle.asm_board.specs.Answers.{Stands};
-ghost use Rattle.asm_board.specs.Boards.{body_of_read};
+ghost use Rattle.asm_board.specs.Boards.{body_of_read, is_new_model};
 ghost use Rattle.asm_board.specs.Calls as calls;
+ghost use Rattle.asm_board.specs.Calls.{footprint, is_change};
+ghost use Rattle.asm_board.specs.Coming.{Comes};
+ghost use Rattle.asm_board.specs.Changes as changes;
 ghost use Rattle.asm_board.specs.declared.call.Call.TheVariants as variants;
-ghost use Rattle.asm_board.specs.Changes.{Change, becomes, is_right_name};
-ghost use Rattle.asm_board.specs.Contents.{Contents};
+ghost use Rattle.asm_board.specs.Changes.{Change, is_right_name};
 ghost use Rattle.asm_board.specs.Refusals.{Tried};
 ghost use Rattle.asm_board.specs.Replies.{tail_of};
-ghost use Rattle.asm_board.specs.Slots.{new_slots, slot_in, versions_in};
+ghost use Rattle.asm_board.specs.Slots as slots;
+ghost use Rattle.asm_board.specs.Slots.{Models, only, slot_in, versions_in};
 ghost use Rattle.asm_portable.specs.declared.port.Port.{Port as Ports};
-ghost use Rattle.asm_core.specs.Preparing.{Comes, accepted_of, effect_of, read_made, change_made};
+ghost use Rattle.asm_core.specs.Preparing.{accepted_of, effect_of, read_made, change_made};
 ghost use Rattle.asm_core.specs.Language.{asmeta};
 
-use crate::changes::{Accepted, is_right_name, load, step_model};
+use crate::changes::{Accepted, is_right_name, load, rollback, step_model, unload};
+use crate::invariants::{add_invariant, drop_invariant};
 use crate::reads::{run, state};
-use crate::shown::models_shown;
-use crate::stop::Stop;
-use asm_board::{Board, Body, Call, Changed, Content, NameVersion, Prepared, Shared, Slot};
+use asm_board::{Board, Body, Call, Changed, Content, NameVersion, Prepared, Slot, Stop, Trail};
 use asm_portable::Port;
-use asm_value::{List, Text};
+use asm_showing::models_shown;
+use asm_trail::remember;
+use asm_value::{List, Shared, Text};
 use std::alloc::{AllocError, Global};
 
 // ---- reads
@@ -98,16 +102,57 @@ fn versions_of(alloc: Global, board: &Board, name: &Text) -> Result<List<NameVer
     Ok(List::from_vec(vec![in alloc; version]?))
 }
 
-/// The new slot of a model.
-fn slots_of(alloc: Global, name: Text, content: Content) -> Result<List<Changed>, AllocError>
-    ensures { IfOk result (λ slots. slots ≡ new_slots (becomes name content)) }
+/// The earlier contents of a model after a change: none of a new one.
+fn trail_after(alloc: Global, old: Option<&Slot>) -> Result<Trail, AllocError>
+    ensures { IfOk result
+        (λ trail. trail ≡ slots.trail_after (option_map (λ slot. slot.now) old.entry)) }
 {
-    let content = Shared::new(alloc, content)?;
-    let slot = Slot {
+    match old {
+        Some(slot) => remember(alloc, slot.trail.get(), slot.version, &slot.content),
+        None => Ok(Trail {
+            pairs: List::new(alloc),
+        }),
+    }
+}
+
+/// The new slot of a model, before the version of its entry is known.
+fn new_slot(
+    alloc: Global,
+    board: &Board,
+    name: &Text,
+    content: Shared<Content>,
+) -> Result<Slot, AllocError>
+    ensures { IfOk result (λ slot. slot
+        ≡ slots.new_slot (slot_in board.now.slots name.now) content) }
+{
+    let trail = Shared::new(alloc, trail_after(alloc, board.slot(name))?)?;
+    Ok(Slot {
         version: 0,
         content,
+        trail,
+    })
+}
+
+/// The new slot of a model, or that it goes.
+fn changed(
+    alloc: Global,
+    board: &Board,
+    name: &Text,
+    content: Option<Shared<Content>>,
+) -> Result<Changed, AllocError>
+    ensures { IfOk result (λ changed. changed ≡ record {
+      name = name.now;
+      slot = option_map (slots.new_slot (slot_in board.now.slots name.now)) content;
+    }) }
+{
+    let slot = match content {
+        Some(content) => Some(new_slot(alloc, board, name, content)?),
+        None => None,
     };
-    Ok(List::from_vec(vec![in alloc; Changed { name, slot }]?))
+    Ok(Changed {
+        name: name.copy(alloc)?,
+        slot,
+    })
 }
 
 /// What a change answers, its new slots and the weight of its entry.
@@ -120,17 +165,20 @@ struct Effect {
 
 fn effect_of(
     alloc: Global,
+    board: &Board,
     call: &Call,
+    name: &Text,
     tried: Result<Accepted, Stop>,
 ) -> Result<Effect, AllocError>
-    ensures { (change : Change) → Comes accepted_of change tried
-        → IfOk result (λ effect. effect ≡ effect_of call.now change) }
+    ensures { (change : Change) → Comes (accepted_of name.now) change tried
+        → IfOk result (λ effect. effect
+        ≡ effect_of (only board.now.slots (name.now ∷ [])) call.now change) }
 {
     match tried {
-        Ok(Accepted { ok, name, content }) => Ok(Effect {
+        Ok(Accepted { ok, content }) => Ok(Effect {
             weight: weight_of(call, &ok),
             body: Body::Ok(ok),
-            slots: slots_of(alloc, name, content)?,
+            slots: List::only(alloc, changed(alloc, board, name, content)?)?,
         }),
         Err(Stop::Refused(refusal)) => Ok(Effect {
             weight: 0,
@@ -167,11 +215,11 @@ fn change_made(
     loads: bool,
     tried: Result<Accepted, Stop>,
 ) -> Result<Prepared, AllocError>
-    ensures { (change : Change) → Comes accepted_of change tried
+    ensures { (change : Change) → Comes (accepted_of name.now) change tried
         → IfOk result
         (λ prepared. prepared ≡ change_made board.now call.now name.now loads change) }
 {
-    let effect = effect_of(alloc, call, tried)?;
+    let effect = effect_of(alloc, board, call, name, tried)?;
     let told = change_told(alloc, board, call, name, &effect.body)?;
     Ok(Prepared {
         call: told.call,
@@ -207,18 +255,21 @@ fn load_prepared(
     change_made(alloc, board, call, name, loads, tried)
 }
 
-/// A step, prepared.
-fn step_prepared(
+/// What a change other than a load comes to, by what was tried, prepared.
+fn changed_model(
     alloc: Global,
     board: &Board,
     call: &Call,
     name: &Text,
-    pick: Option<u64>,
+    tried: Result<Accepted, Stop>,
 ) -> Result<Prepared, AllocError>
-    requires { call.now ≡ variants.Step name.now pick }
+    requires speaks { footprint call.now ≡ name.now ∷ [] }
+    requires change { is_change call.now ≡ true }
+    requires old { (models : Models) → is_new_model models call.now ≡ false }
+    requires comes { Comes (accepted_of name.now)
+        (changes.change asmeta board.now.slots call.now) tried }
     ensures { IfOk result (λ prepared. Stands asmeta prepared call.now board.now) }
 {
-    let tried = step_model(alloc, board, name, pick);
     change_made(alloc, board, call, name, false, tried)
 }
 
@@ -233,7 +284,18 @@ pub fn prepare(alloc: Global, board: &Board, call: &Call) -> Result<Prepared, Al
             read_made(alloc, call, body)
         }
         Call::Load { name, text } => load_prepared(alloc, board, call, name, text),
-        Call::Step { formula, pick } => step_prepared(alloc, board, call, formula, *pick),
+        Call::Unload { name } => {
+            let tried = unload(alloc, board, name);
+            changed_model(alloc, board, call, name, tried)
+        }
+        Call::Step {
+            formula,
+            inputs,
+            pick,
+        } => {
+            let tried = step_model(alloc, board, formula, inputs, *pick);
+            changed_model(alloc, board, call, formula, tried)
+        }
         Call::State { name } => {
             let body = read_body(state(alloc, board, name))?;
             read_made(alloc, call, body)
@@ -241,6 +303,18 @@ pub fn prepare(alloc: Global, board: &Board, call: &Call) -> Result<Prepared, Al
         Call::Models => {
             let tree = models_shown(alloc, board.slots.as_slice())?;
             read_made(alloc, call, Body::Ok(tree))
+        }
+        Call::AddInvariant { name, inv, term } => {
+            let tried = add_invariant(alloc, board, name, inv, term);
+            changed_model(alloc, board, call, name, tried)
+        }
+        Call::DropInvariant { name, inv } => {
+            let tried = drop_invariant(alloc, board, name, inv);
+            changed_model(alloc, board, call, name, tried)
+        }
+        Call::Rollback { name, to } => {
+            let tried = rollback(alloc, board, name, *to);
+            changed_model(alloc, board, call, name, tried)
         }
     }
 }

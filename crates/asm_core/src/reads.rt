@@ -4,17 +4,16 @@ ghost use Rattle.asm_board.specs.Changes as changes;
 ghost use Rattle.asm_board.specs.Reads as spec;
 ghost use Rattle.asm_board.specs.Refusals.{after};
 ghost use Rattle.asm_board.specs.Shown as show;
-ghost use Rattle.asm_core.specs.Preparing.{Comes};
+ghost use Rattle.asm_board.specs.Coming.{Comes};
 ghost use Rattle.asm_core.specs.Language.{asmeta};
 
-use crate::shown::{run_shown, state_shown};
 use crate::steps::steps;
-use crate::stop::Stop;
 use crate::texts::program_in;
-use asm_board::{Board, Refusal, Slot};
+use asm_board::{Board, Refusal, Slot, Stop};
 use asm_portable::Port;
 use asm_program::Program;
-use asm_value::Text;
+use asm_showing::{run_shown, state_shown};
+use asm_value::{Shared, Text};
 use std::alloc::Global;
 
 /// The model of a name, or the refusal of the name.
@@ -28,20 +27,25 @@ pub fn found<'a>(alloc: Global, board: &'a Board, name: &Text) -> Result<&'a Slo
 }
 
 /// What some steps of a program show.
-fn ran(alloc: Global, program: &Program, count: u64, pick: Option<u64>) -> Result<Port, Stop>
+fn ran(
+    alloc: Global,
+    program: &Shared<Program>,
+    count: u64,
+    pick: Option<u64>,
+) -> Result<Port, Stop>
     ensures { Comes (λ tree. tree)
         (after (spec.steps_of asmeta pick program.now count)
-        (λ state. Ok (show.run_shown program.now count state))) result }
+        (λ content. Ok (show.run_shown program.now count content.state))) result }
 {
-    let state = steps(alloc, program, count, pick)?;
-    Ok(run_shown(alloc, program, count, &state)?)
+    let content = steps(alloc, program, count, pick)?;
+    Ok(run_shown(alloc, program.get(), count, content.state().get())?)
 }
 
 /// What some steps of a text show.
 pub fn run(alloc: Global, text: &str, count: u64, pick: Option<u64>) -> Result<Port, Stop>
     ensures { Comes (λ tree. tree) (spec.run asmeta text.now count pick) result }
 {
-    let program = program_in(alloc, text)?;
+    let program = Shared::new(alloc, program_in(alloc, text)?)?;
     ran(alloc, &program, count, pick)
 }
 

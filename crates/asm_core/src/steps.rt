@@ -1,151 +1,80 @@
-//! Steps of programs.
-ghost use Rattle.std.specs.Prelude.{◌≡◌};
-ghost use Rattle.asm_program.specs.declared.program.Program.{Program as Programs};
-ghost use Rattle.asm_board.specs.declared.refusal.RefusalName.{RefusalName as Names};
+//! Models that start and step, or the refusals of their starts and steps.
+ghost use Rattle.std.specs.Prelude.{◌≡◌, []};
 ghost use Rattle.asm_board.specs.Changes as spec;
-ghost use Rattle.asm_board.specs.Contents as contents;
+ghost use Rattle.asm_board.specs.Coming.{Comes};
 ghost use Rattle.asm_board.specs.Reads as reads;
-ghost use Rattle.asm_core.specs.Preparing.{Comes};
 ghost use Rattle.asm_core.specs.Language.{asmeta};
-ghost use Rattle.asm_core.specs.Showing.{whose_by};
+ghost use Rattle.asm_showing.specs.Showing.{whose_by};
 
-use crate::clashes::clash_shown;
-use crate::faults::{fault_shown, state_full};
-use crate::stop::Stop;
-use asm_board::{RefusalName, the_first_clash_is_the_clash};
-use asm_fire::fire;
-use asm_program::{Fault, Program};
-use asm_rules::{RuleOutcome, yields};
-use asm_state::State;
-use asm_terms::{InitOutcome, initial};
-use asm_updates::UpdateSet;
+use asm_board::{Content, RefusalName, Stop};
+use asm_program::Program;
+use asm_showing::content_after;
+use asm_step::{start_model, step_model};
+use asm_value::{List, Shared, Update};
 use std::alloc::Global;
 
-/// The most that a state weighs.
-const STATE_WEIGHT: u64 = 65_536;
-
-/// The state, unless it weighs too much. A model is refused by its name, a run by the number of the
-/// step.
-fn light(alloc: Global, name: &str, step: Option<u64>, state: State) -> Result<State, Stop>
-    ensures { (fault : Names) (program : Programs) → Comes (λ state. state)
-        (spec.state_after fault (whose_by name.now step) program (contents.light state)) result }
-{
-    let weight = state.weight();
-    if weight > STATE_WEIGHT {
-        let refusal = state_full(alloc, name, step, weight)?;
-        return Err(Stop::Refused(refusal));
-    }
-    Ok(state)
-}
-
-/// The refusal of a fault under this name.
-fn faulted(
-    alloc: Global,
-    refusal: RefusalName,
-    name: &str,
-    step: Option<u64>,
-    program: &Program,
-    fault: Fault,
-) -> Result<State, Stop>
-    ensures { Comes (λ state. state)
-        (spec.state_after refusal (whose_by name.now step) program.now (contents.Faults fault))
-        result }
-{
-    let refusal = fault_shown(alloc, refusal, name, step, program, fault)?;
-    Err(Stop::Refused(refusal))
-}
-
-/// The initial state of a program, or its refusal: of a model by its name, of a run as step 0.
-pub fn started(
+/// A model of the program in its initial state: a model of a name, or the start of a run.
+pub(crate) fn started(
     alloc: Global,
     name: &str,
     step: Option<u64>,
-    program: &Program,
-) -> Result<State, Stop>
-    ensures { Comes (λ state. state)
+    program: &Shared<Program>,
+) -> Result<Content, Stop>
+    ensures { Comes (λ content. content)
         (spec.started asmeta (whose_by name.now step) program.now) result }
 {
-    match initial(alloc, program)? {
-        InitOutcome::Done(state) => light(alloc, name, step, state),
-        InitOutcome::Fault(fault) => {
-            faulted(alloc, RefusalName::InitFault, name, step, program, fault)
-        }
-    }
+    let stepped = start_model(alloc, program.share()?)?;
+    content_after(
+        alloc,
+        RefusalName::InitFault,
+        name,
+        step,
+        program.get(),
+        stepped,
+    )
 }
 
-/// The state in which the set is fired. Where it has a clash nothing is fired, and the clash is
-/// refused.
-fn fired(
-    alloc: Global,
-    name: &str,
-    step: Option<u64>,
-    program: &Program,
-    state: &State,
-    updates: &UpdateSet,
-) -> Result<State, Stop>
-    ensures { (fault : Names) → Comes (λ state. state)
-        (spec.state_after fault (whose_by name.now step) program.now
-        (contents.fired state.now updates.now)) result }
-{
-    the_first_clash_is_the_clash();
-    match updates.clash() {
-        Some(clash) => {
-            let refusal = clash_shown(alloc, name, step, program, &clash)?;
-            Err(Stop::Refused(refusal))
-        }
-        None => {
-            let next = fire(alloc, state, updates)?;
-            light(alloc, name, step, next)
-        }
-    }
-}
-
-/// The state after one step: the set that the main rule yields for the pick is fired. Or the
-/// refusal of the step: of a model by its name, of a run by the number of the step.
-pub fn stepped(
+/// The content after one step: of a model of a name, or of a run with the number of this step.
+pub(crate) fn stepped_from(
     alloc: Global,
     name: &str,
     step: Option<u64>,
     pick: Option<u64>,
-    program: &Program,
-    state: &State,
-) -> Result<State, Stop>
-    ensures { Comes (λ state. state)
-        (spec.stepped asmeta (whose_by name.now step) pick program.now state.now) result }
+    content: &Content,
+    inputs: &List<Update>,
+) -> Result<Content, Stop>
+    ensures { Comes (λ next. next)
+        (spec.stepped_from asmeta (whose_by name.now step) pick content.now inputs.now) result }
 {
-    match yields(alloc, program, state, pick)? {
-        RuleOutcome::Set(updates) => fired(alloc, name, step, program, state, &updates),
-        RuleOutcome::Fault(fault) => {
-            faulted(alloc, RefusalName::Fault, name, step, program, fault)
-        }
-    }
+    let stepped = step_model(alloc, content, inputs, pick)?;
+    let program = content.program().get();
+    content_after(alloc, RefusalName::Fault, name, step, program, stepped)
 }
 
-/// This many steps of a run, of which the first is from this state.
-fn steps_from(
-    alloc: Global,
-    program: &Program,
-    count: u64,
-    pick: Option<u64>,
-    first: State,
-) -> Result<State, Stop>
-    ensures { Comes (λ state. state)
-        (reads.steps_from asmeta pick program.now count 1 first) result }
+/// This many steps of a run, of which the first has the number 1.
+fn steps_from(alloc: Global, count: u64, pick: Option<u64>, first: Content) -> Result<Content, Stop>
+    ensures { Comes (λ content. content) (reads.steps_from asmeta pick count 1 first) result }
 {
-    let mut state = first;
+    let none = List::new(alloc);
+    let mut content = first;
     for made in 0..count {
-        match stepped(alloc, "", Some(made + 1), pick, program, &state) {
-            Ok(next) => state = next,
+        match stepped_from(alloc, "", Some(made + 1), pick, &content, &none) {
+            Ok(next) => content = next,
             Err(stop) => return Err(stop),
         }
     }
-    Ok(state)
+    Ok(content)
 }
 
-/// This many steps of a run from the initial state.
-pub fn steps(alloc: Global, program: &Program, count: u64, pick: Option<u64>) -> Result<State, Stop>
-    ensures { Comes (λ state. state) (reads.steps_of asmeta pick program.now count) result }
+/// This many steps of a program from its initial state, which is step 0.
+pub(crate) fn steps(
+    alloc: Global,
+    program: &Shared<Program>,
+    count: u64,
+    pick: Option<u64>,
+) -> Result<Content, Stop>
+    ensures { Comes (λ content. content) (reads.steps_of asmeta pick program.now count) result }
 {
-    let state = started(alloc, "", Some(0), program)?;
-    steps_from(alloc, program, count, pick, state)
+    let content = started(alloc, "", Some(0), program)?;
+    steps_from(alloc, count, pick, content)
 }

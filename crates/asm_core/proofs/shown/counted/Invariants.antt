@@ -1,8 +1,0 @@
-use Rattle.std.proofs.Common.{◌≡◌, drop}
-use Rattle.asm_portable.specs.Ports.{ascending}
-use Rattle.asm_board.specs.Shown as spec
-use Rattle.asm_core.proofs.shown.counted.Given as goal
-
--- the domains from this one on are shown
-abbrev pub invariant-loop-number : goal.invariant-loop-number
-invariant-loop-number l = l.fields.items ≡ ascending (spec.counted l.state l.number (drop l.number l.program.domains))

@@ -1,8 +1,0 @@
-use Rattle.std.proofs.Common.{◌≡◌, drop}
-use Rattle.asm_portable.specs.Ports.{ascending}
-use Rattle.asm_board.specs.Shown as spec
-use Rattle.asm_core.proofs.shown.defined.Given as goal
-
--- the functions from this one on are shown
-abbrev pub invariant-loop-number : goal.invariant-loop-number
-invariant-loop-number l = l.fields.items ≡ ascending (spec.defined l.program.domains l.state l.number (drop l.number l.program.functions))
