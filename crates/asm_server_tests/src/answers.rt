@@ -4,7 +4,7 @@ use asm_board::{Body, Call, Reply};
 use asm_core::One;
 use asm_io::MemorySink;
 use asm_portable::Port;
-use asm_value::Text;
+use asm_value::{List, Text};
 use asm_wire::{put_no_memory, put_reply};
 use std::alloc::{AllocError, Global};
 use std::test::Fail;
@@ -35,6 +35,7 @@ fn loads_and_steps(alloc: Global, room: u64, load: &str, step: &str) -> Result<b
     let loaded = line_of(alloc, &mut one, &call)?;
     let call = Call::Step {
         formula: Text::from_str(alloc, "Q")?,
+        inputs: Port::Fields(List::new(alloc)),
         pick: None,
     };
     let stepped = line_of(alloc, &mut one, &call)?;

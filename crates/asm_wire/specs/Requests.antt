@@ -1,11 +1,15 @@
 -- What a line asks for.
-use Rattle.std.specs.Prelude.{◌≡◌, ℕ, Bool, true, false, not, ◌&&◌, ◌⊎◌, nat_le, List, [], ◌∷◌, codes, IsUtf8, if◌then◌else◌, Option, Some, None, option_and_then, is_some, is_none, Ok, Err}
+use Rattle.std.specs.Prelude.{◌≡◌, ℕ, ◌^◌, ◌-◌, Bool, true, false, not, ◌&&◌, ◌⊎◌, nat_le, List, [], ◌∷◌, codes, IsUtf8, if◌then◌else◌, Option, Some, None, option_and_then, is_some, is_none, Ok, Err}
+use Rattle.std.specs.Option.{option_map_or}
 use Rattle.std.specs.List.{list_any}
 use Rattle.std.specs.Str.{bytes_eq}
 use Rattle.serde_json.specs.Data.{Data, null, boolean, number, string, array, object, Members, no_members, member}
 use Rattle.serde_json.specs.Find.{get, as_object, as_str, as_number, as_u64}
 use Rattle.serde_json.specs.Read.{read}
 use Rattle.serde_json.specs.Written.{has_float}
+use Rattle.asm_portable.specs.declared.port.Port.{Port}
+use Rattle.asm_portable.specs.Json.{tree_of}
+use Rattle.asm_portable.specs.Ports.{fields}
 use Rattle.asm_board.specs.declared.call.Call.{Call}
 use Rattle.asm_board.specs.declared.call.Call.TheVariants as call
 use Rattle.asm_board.specs.Refusals.{Tried, after, needs, is_there, bad_json, bad_request, unbuilt}
@@ -70,6 +74,10 @@ are_inputs (Some ms) = are_objects ms
 abbrev pub is_inputs : Data → Bool
 is_inputs d = are_inputs (as_object d)
 
+-- the inputs of a step, none where the field isn't there
+abbrev pub inputs_in : List ℕ → Data → Port
+inputs_in key request = option_map_or tree_of (get key request) (fields [])
+
 -- the first key that isn't among these; keys ascend
 abbrev pub first_other : List (List ℕ) → Members → Option (List ℕ)
 first_other keys no_members = None
@@ -122,9 +130,8 @@ step_in request =
     after (optional is_inputs (codes "inputs") request) (λ _.
     after (optional is_pick (codes "pick") request) (λ _.
     after (only (codes "formula" ∷ codes "inputs" ∷ codes "op" ∷ codes "pick" ∷ []) request) (λ _.
-    after (without (codes "inputs") request) (λ _.
     after (needs (is_identifier formula) unbuilt) (λ _.
-    Ok (call.Step formula (pick_in (codes "pick") request))))))))
+    Ok (call.Step formula (inputs_in (codes "inputs") request) (pick_in (codes "pick") request)))))))
 
 abbrev pub state_in : Data → Tried Call
 state_in request =
@@ -141,11 +148,42 @@ models_in request =
     after (without (codes "since") request) (λ _.
     Ok call.Models)))
 
+-- an identifier, which has to be there
+abbrev pub identifier_in : List ℕ → Data → Tried (List ℕ)
+identifier_in key request =
+    after (string_in key request) (λ name.
+    after (needs (is_identifier name) (bad_request key)) (λ _. Ok name))
+
+abbrev pub add_invariant_in : Data → Tried Call
+add_invariant_in request =
+    after (string_in (codes "name") request) (λ name.
+    after (identifier_in (codes "inv") request) (λ inv.
+    after (string_in (codes "term") request) (λ term.
+    after (only (codes "inv" ∷ codes "name" ∷ codes "op" ∷ codes "term" ∷ []) request) (λ _.
+    Ok (call.AddInvariant name inv term)))))
+
+abbrev pub drop_invariant_in : Data → Tried Call
+drop_invariant_in request =
+    after (string_in (codes "name") request) (λ name.
+    after (identifier_in (codes "inv") request) (λ inv.
+    after (only (codes "inv" ∷ codes "name" ∷ codes "op" ∷ []) request) (λ _.
+    Ok (call.DropInvariant name inv))))
+
+-- the greatest number of a request
+abbrev pub most_number : ℕ
+most_number = 2 ^ 64 - 1
+
+abbrev pub rollback_in : Data → Tried Call
+rollback_in request =
+    after (string_in (codes "name") request) (λ name.
+    after (number_in most_number (codes "to") request) (λ to.
+    after (only (codes "name" ∷ codes "op" ∷ codes "to" ∷ []) request) (λ _.
+    Ok (call.Rollback name to))))
+
 -- the operations that aren't built
 abbrev pub later_operations : List (List ℕ)
 later_operations =
-    codes "unload" ∷ codes "value" ∷ codes "text" ∷ codes "log"
-    ∷ codes "addinv" ∷ codes "dropinv" ∷ codes "rollback" ∷ codes "swap" ∷ []
+    codes "unload" ∷ codes "value" ∷ codes "text" ∷ codes "log" ∷ codes "swap" ∷ []
 
 abbrev pub other_in : List ℕ → Tried Call
 other_in op =
@@ -158,7 +196,10 @@ call_by op request =
     else (if bytes_eq op (codes "step") then step_in request
     else (if bytes_eq op (codes "state") then state_in request
     else (if bytes_eq op (codes "models") then models_in request
-    else other_in op))))
+    else (if bytes_eq op (codes "addinv") then add_invariant_in request
+    else (if bytes_eq op (codes "dropinv") then drop_invariant_in request
+    else (if bytes_eq op (codes "rollback") then rollback_in request
+    else other_in op)))))))
 
 -- the call for which a JSON tree asks, or the first reason why it asks for none
 unfoldable pub call_in : Data → Tried Call

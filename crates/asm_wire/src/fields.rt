@@ -1,5 +1,5 @@
 //! The fields of a request, each with its test.
-ghost use Rattle.std.specs.Prelude.{◌≡◌, map, option_map};
+ghost use Rattle.std.specs.Prelude.{◌≡◌, map, option_map, IfOk};
 ghost use Rattle.serde_json.specs.View.{view, members_view};
 ghost use Rattle.asm_board.specs.Refusals.{needs, bad_request};
 ghost use Rattle.asm_wire.specs.Refused.{Reports, ReportsAs};
@@ -8,9 +8,11 @@ ghost use Rattle.asm_wire.specs.Requests as spec;
 use crate::inputs::is_inputs;
 use crate::refusal::WireRefusal;
 use crate::words::is_among;
-use asm_value::Text;
+use asm_board::is_identifier;
+use asm_portable::{Port, tree_of};
+use asm_value::{List, Text};
 use serde_json::{Map, Value};
-use std::alloc::Global;
+use std::alloc::{AllocError, Global};
 
 /// Refuses a field that isn't fit.
 fn needs_field(alloc: Global, fits: bool, key: &str) -> Result<(), WireRefusal>
@@ -34,6 +36,21 @@ pub(crate) fn string_in<'a>(
         Some(text) => Ok(text),
         None => Err(WireRefusal::BadRequest(Text::from_str(alloc, key)?)),
     }
+}
+
+/// An identifier, which has to be there.
+pub(crate) fn identifier_in<'a>(
+    alloc: Global,
+    key: &str,
+    request: &'a Value,
+) -> Result<&'a str, WireRefusal>
+    ensures { ReportsAs (λ s. s.now) (spec.identifier_in key.now (view request.now)) result }
+{
+    let name = string_in(alloc, key, request)?;
+    if is_identifier(name) {
+        return Ok(name);
+    }
+    Err(WireRefusal::BadRequest(Text::from_str(alloc, key)?))
 }
 
 /// A whole number from 0 to this, which has to be there.
@@ -95,6 +112,16 @@ pub(crate) fn optional_inputs(alloc: Global, key: &str, request: &Value) -> Resu
     match request.get(key) {
         None => Ok(()),
         Some(value) => needs_field(alloc, is_inputs(value), key),
+    }
+}
+
+/// The tree of the inputs of a step, empty fields where they aren't there.
+pub(crate) fn inputs_in(alloc: Global, key: &str, request: &Value) -> Result<Port, AllocError>
+    ensures { IfOk result (λ inputs. inputs ≡ spec.inputs_in key.now (view request.now)) }
+{
+    match request.get(key) {
+        Some(inputs) => tree_of(alloc, inputs),
+        None => Ok(Port::Fields(List::new(alloc))),
     }
 }
 

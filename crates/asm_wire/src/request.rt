@@ -8,7 +8,8 @@ ghost use Rattle.asm_board.specs.declared.call.Call as calls;
 ghost use Rattle.asm_board.specs.Refusals.{Tried};
 
 use crate::fields::{
-    number_in, only, optional_inputs, optional_natural, optional_pick, pick_in, string_in, without,
+    identifier_in, inputs_in, number_in, only, optional_inputs, optional_natural, optional_pick,
+    pick_in, string_in, without,
 };
 use crate::refusal::WireRefusal;
 use crate::words::is_among;
@@ -21,9 +22,7 @@ use std::alloc::Global;
 const MOST_STEPS: u64 = 64;
 
 /// The operations that aren't built.
-const LATER_OPERATIONS: [&str; 8] = [
-    "unload", "value", "text", "log", "addinv", "dropinv", "rollback", "swap",
-];
+const LATER_OPERATIONS: [&str; 5] = ["unload", "value", "text", "log", "swap"];
 
 fn run_in(alloc: Global, request: &Value) -> Result<Call, WireRefusal>
     ensures { Reports (spec.run_in (view request.now)) result }
@@ -57,13 +56,17 @@ fn step_in(alloc: Global, request: &Value) -> Result<Call, WireRefusal>
     optional_inputs(alloc, "inputs", request)?;
     optional_pick(alloc, "pick", request)?;
     only(alloc, &["formula", "inputs", "op", "pick"], request)?;
-    without("inputs", request)?;
     if !is_identifier(formula) {
         return Err(WireRefusal::Unbuilt);
     }
     let formula = Text::from_str(alloc, formula)?;
+    let inputs = inputs_in(alloc, "inputs", request)?;
     let pick = pick_in("pick", request);
-    Ok(Call::Step { formula, pick })
+    Ok(Call::Step {
+        formula,
+        inputs,
+        pick,
+    })
 }
 
 fn state_in(alloc: Global, request: &Value) -> Result<Call, WireRefusal>
@@ -86,6 +89,40 @@ fn models_in(alloc: Global, request: &Value) -> Result<Call, WireRefusal>
     Ok(Call::Models)
 }
 
+fn add_invariant_in(alloc: Global, request: &Value) -> Result<Call, WireRefusal>
+    ensures { Reports (spec.add_invariant_in (view request.now)) result }
+{
+    let name = string_in(alloc, "name", request)?;
+    let inv = identifier_in(alloc, "inv", request)?;
+    let term = string_in(alloc, "term", request)?;
+    only(alloc, &["inv", "name", "op", "term"], request)?;
+    let name = Text::from_str(alloc, name)?;
+    let inv = Text::from_str(alloc, inv)?;
+    let term = Text::from_str(alloc, term)?;
+    Ok(Call::AddInvariant { name, inv, term })
+}
+
+fn drop_invariant_in(alloc: Global, request: &Value) -> Result<Call, WireRefusal>
+    ensures { Reports (spec.drop_invariant_in (view request.now)) result }
+{
+    let name = string_in(alloc, "name", request)?;
+    let inv = identifier_in(alloc, "inv", request)?;
+    only(alloc, &["inv", "name", "op"], request)?;
+    let name = Text::from_str(alloc, name)?;
+    let inv = Text::from_str(alloc, inv)?;
+    Ok(Call::DropInvariant { name, inv })
+}
+
+fn rollback_in(alloc: Global, request: &Value) -> Result<Call, WireRefusal>
+    ensures { Reports (spec.rollback_in (view request.now)) result }
+{
+    let name = string_in(alloc, "name", request)?;
+    let to = number_in(alloc, u64::MAX, "to", request)?;
+    only(alloc, &["name", "op", "to"], request)?;
+    let name = Text::from_str(alloc, name)?;
+    Ok(Call::Rollback { name, to })
+}
+
 /// Why no other operation is built.
 fn other_in(alloc: Global, op: &str) -> Result<Call, WireRefusal>
     ensures { Reports (spec.other_in op.now) result }
@@ -105,6 +142,9 @@ fn call_by(alloc: Global, op: &str, request: &Value) -> Result<Call, WireRefusal
         "step" => step_in(alloc, request),
         "state" => state_in(alloc, request),
         "models" => models_in(alloc, request),
+        "addinv" => add_invariant_in(alloc, request),
+        "dropinv" => drop_invariant_in(alloc, request),
+        "rollback" => rollback_in(alloc, request),
         _ => other_in(alloc, op),
     }
 }
