@@ -1,5 +1,5 @@
 //! What is under the lock: the one journal, its board, and the writer that publishes it.
-ghost use Rattle.std.specs.Prelude.{◌≡◌, ◌+◌, ◌-◌, take, drop, ◌<◌, ◌≤◌, ◌∷◌, ◌++◌, [], List, length, vec_len, true, IsTrue, MatchOption, MatchResult};
+ghost use Rattle.std.specs.Prelude.{◌≡◌, ◌+◌, ◌-◌, take, drop, ◌<◌, ◌≤◌, ◌∷◌, ◌++◌, [], List, length, vec_len, vec_capacity, true, IfOk, OnOk, IsTrue, MatchOption, MatchResult};
 ghost use Rattle.std.specs.Arc.{arc_value};
 ghost use mathlib.Core.List.{IsPrefix};
 ghost use Rattle.asm_board.specs.declared.entry.Entry.{Entry};
@@ -69,6 +69,36 @@ fn show_through<L: Opening, R: Wait + Drop>(place: &mut Option<BoardHandle<L, R>
         unreachable!()
     };
     *place = Some(writer.show(next));
+}
+
+/// Room for one more in both lists.
+fn reserve_both(journal: &mut Vec<Entry>, mine: &mut Vec<u64>) -> Result<(), AllocError>
+    ensures journal { journal.new.items ≡ journal.old.items }
+    ensures mine { mine.new.items ≡ mine.old.items }
+    ensures room { OnOk result ((vec_len journal.new < vec_capacity journal.new)
+        × (vec_len mine.new < vec_capacity mine.new)) }
+{
+    journal.reserve(1)?;
+    mine.reserve(1)
+}
+
+/// Two owners of a board.
+fn shared_twice(alloc: Global, board: Board) -> Result<(Arc<Board>, Arc<Board>), AllocError>
+    ensures { IfOk result (λ both. (arc_value both.0 ≡ board) × (arc_value both.1 ≡ board)) }
+{
+    let board = Arc::new(alloc, board)?;
+    let shown = Arc::try_clone(&board)?;
+    Ok((board, shown))
+}
+
+/// An entry, and two owners of the board after it.
+fn taken_apart(alloc: Global, next: Next) -> Result<(Entry, (Arc<Board>, Arc<Board>)), AllocError>
+    ensures { IfOk result (λ parts. (parts.0 ≡ next.entry)
+        × (arc_value parts.1.0 ≡ next.board) × (arc_value parts.1.1 ≡ next.board)) }
+{
+    let Next { entry, board } = next;
+    let boards = shared_twice(alloc, board)?;
+    Ok((entry, boards))
 }
 
 impl<L: Opening, R: Wait + Drop> LockedJournal<L, R> {
@@ -157,11 +187,8 @@ impl<L: Opening, R: Wait + Drop> LockedJournal<L, R> {
             (λ _. share.new.amount ≡ share.old.amount) }
         ensures parts { share.new.parts ≡ share.old.parts }
     {
-        self.journal.reserve(1)?;
-        mine.reserve(1)?;
-        let Next { entry, board } = next;
-        let board = Arc::new(alloc, board)?;
-        let shown = Arc::try_clone(&board)?;
+        reserve_both(&mut self.journal, mine)?;
+        let (entry, (board, shown)) = taken_apart(alloc, next)?;
         if !self.front.push(&self.head, &entry) {
             return Err(AllocError);
         }

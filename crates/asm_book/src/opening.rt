@@ -80,6 +80,8 @@ impl Opening for Brand {
 
     ghost meanings = { record {
       program_of = λ source. Err (record { kind = []; more = []; line = 0; column = 0 });
+      term_of = λ program wanted source.
+          Err (record { kind = []; more = []; line = 0; column = 0 });
       initial = λ program. Starts map.empty;
       yields = λ program state pick. Yields set.empty [];
     } };

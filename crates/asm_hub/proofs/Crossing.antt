@@ -15,6 +15,7 @@ use Rattle.std.proofs.alloc.Global.TheSendSync as heap
 use Rattle.asm_base.specs.contracts.text.Text as text
 use Rattle.asm_base.specs.contracts.list.List as list
 use Rattle.asm_base.specs.contracts.boxed.Boxed as boxed
+use Rattle.asm_base.specs.contracts.shared.Shared as shared
 use Rattle.asm_value.specs.contracts.domain.Domain as domain
 use Rattle.asm_value.specs.contracts.value.Value as value
 use Rattle.asm_value.specs.contracts.args.Args as args
@@ -47,9 +48,10 @@ use Rattle.asm_program.specs.contracts.program.MacroInfo as macro_info
 use Rattle.asm_program.specs.contracts.program.InitInfo as init_info
 use Rattle.asm_program.specs.contracts.program.Inv as invariant
 use Rattle.asm_program.specs.contracts.program.Program as program
-use Rattle.asm_board.specs.contracts.shared.Shared as shared
 use Rattle.asm_board.specs.contracts.content.Content as content
 use Rattle.asm_board.specs.contracts.content.Content.TheInside as content_inside
+use Rattle.asm_board.specs.contracts.trail.TrailPair as pair
+use Rattle.asm_board.specs.contracts.trail.Trail as trail
 use Rattle.asm_board.specs.contracts.board.Slot as slot
 use Rattle.asm_board.specs.contracts.board.NamedSlot as named
 use Rattle.asm_board.specs.contracts.board.Board as board
@@ -597,24 +599,36 @@ invariant_send = declared_send invariant.the_type (text_send, ((search parts dep
 invariant_sync : IsSync invariant.the_row
 invariant_sync = declared_sync invariant.the_type (text_sync, ((search parts depth 40), (text_sync, (boxed_term_sync, tt))))
 
-program_send : IsSend program.the_row
-program_send = declared_send program.the_type (text_send, ((list_send domain_info.the_row domain_info_crosses.the_send), ((list_send function.the_row function_send), ((list_send macro_info.the_row macro_info_send), (boxed_rule_send, ((list_send init_info.the_row init_info_send), ((list_send invariant.the_row invariant_send), (u64_send, (text_send, (live_crosses.the_send, tt))))))))))
-
-program_sync : IsSync program.the_row
-program_sync = declared_sync program.the_type (text_sync, ((list_sync domain_info.the_row domain_info_crosses.the_sync), ((list_sync function.the_row function_sync), ((list_sync macro_info.the_row macro_info_sync), (boxed_rule_sync, ((list_sync init_info.the_row init_info_sync), ((list_sync invariant.the_row invariant_sync), (u64_sync, (text_sync, (live_crosses.the_sync, tt))))))))))
-
--- ---- boards
 shared_send : (T : RattleType) → IsSend T → IsSync T → IsSend (shared.the_row T)
 shared_send T s y = search (values, crosses) depth 40
 
 shared_sync : (T : RattleType) → IsSend T → IsSync T → IsSync (shared.the_row T)
 shared_sync T s y = search (values, crosses) depth 40
 
+invariants_send : IsSend (list.the_row (shared.the_row invariant.the_row))
+invariants_send = list_send (shared.the_row invariant.the_row) (shared_send invariant.the_row invariant_send invariant_sync)
+
+invariants_sync : IsSync (list.the_row (shared.the_row invariant.the_row))
+invariants_sync = list_sync (shared.the_row invariant.the_row) (shared_sync invariant.the_row invariant_send invariant_sync)
+
+program_send : IsSend program.the_row
+program_send = declared_send program.the_type (text_send, ((list_send domain_info.the_row domain_info_crosses.the_send), ((list_send function.the_row function_send), ((list_send macro_info.the_row macro_info_send), (boxed_rule_send, ((list_send init_info.the_row init_info_send), (invariants_send, (u64_send, (text_send, (live_crosses.the_send, tt))))))))))
+
+program_sync : IsSync program.the_row
+program_sync = declared_sync program.the_type (text_sync, ((list_sync domain_info.the_row domain_info_crosses.the_sync), ((list_sync function.the_row function_sync), ((list_sync macro_info.the_row macro_info_sync), (boxed_rule_sync, ((list_sync init_info.the_row init_info_sync), (invariants_sync, (u64_sync, (text_sync, (live_crosses.the_sync, tt))))))))))
+
+-- ---- boards
+shared_invariants_send : IsSend (shared.the_row (list.the_row (shared.the_row invariant.the_row)))
+shared_invariants_send = shared_send (list.the_row (shared.the_row invariant.the_row)) invariants_send invariants_sync
+
+shared_invariants_sync : IsSync (shared.the_row (list.the_row (shared.the_row invariant.the_row)))
+shared_invariants_sync = shared_sync (list.the_row (shared.the_row invariant.the_row)) invariants_send invariants_sync
+
 content_inside_send : IsSend content_inside.the_row
-content_inside_send = declared_send content_inside.the_type ((shared_send program.the_row program_send program_sync), (state_send, tt))
+content_inside_send = declared_send content_inside.the_type ((shared_send program.the_row program_send program_sync), (shared_invariants_send, ((shared_send state.the_row state_send state_sync), tt)))
 
 content_inside_sync : IsSync content_inside.the_row
-content_inside_sync = declared_sync content_inside.the_type ((shared_sync program.the_row program_send program_sync), (state_sync, tt))
+content_inside_sync = declared_sync content_inside.the_type ((shared_sync program.the_row program_send program_sync), (shared_invariants_sync, ((shared_sync state.the_row state_send state_sync), tt)))
 
 content_send : IsSend content.the_row
 content_send = search (sendable, content_inside_send) depth 20
@@ -622,11 +636,23 @@ content_send = search (sendable, content_inside_send) depth 20
 content_sync : IsSync content.the_row
 content_sync = search (sendable, content_inside_sync) depth 20
 
+pair_send : IsSend pair.the_row
+pair_send = declared_send pair.the_type (u64_send, ((shared_send content.the_row content_send content_sync), tt))
+
+pair_sync : IsSync pair.the_row
+pair_sync = declared_sync pair.the_type (u64_sync, ((shared_sync content.the_row content_send content_sync), tt))
+
+trail_send : IsSend trail.the_row
+trail_send = declared_send trail.the_type ((list_send pair.the_row pair_send), tt)
+
+trail_sync : IsSync trail.the_row
+trail_sync = declared_sync trail.the_type ((list_sync pair.the_row pair_sync), tt)
+
 slot_send : IsSend slot.the_row
-slot_send = declared_send slot.the_type (u64_send, ((shared_send content.the_row content_send content_sync), tt))
+slot_send = declared_send slot.the_type (u64_send, ((shared_send content.the_row content_send content_sync), ((shared_send trail.the_row trail_send trail_sync), tt)))
 
 slot_sync : IsSync slot.the_row
-slot_sync = declared_sync slot.the_type (u64_sync, ((shared_sync content.the_row content_send content_sync), tt))
+slot_sync = declared_sync slot.the_type (u64_sync, ((shared_sync content.the_row content_send content_sync), ((shared_sync trail.the_row trail_send trail_sync), tt)))
 
 named_send : IsSend named.the_row
 named_send = declared_send named.the_type (text_send, (slot_send, tt))
@@ -641,10 +667,10 @@ board_sync : IsSync board.the_row
 board_sync = declared_sync board.the_type (u64_sync, (u64_sync, ((list_sync named.the_row named_sync), tt)))
 
 pub call_sync : IsSync call.the_row
-call_sync = search values depth 40
+call_sync = search (values, port_sync) depth 40
 
 call_send : IsSend call.the_row
-call_send = search values depth 40
+call_send = search (values, port_send) depth 40
 
 refusal_send : IsSend refusal.the_row
 refusal_send = declared_send refusal.the_type (refusal_name.the_send, (port_send, tt))

@@ -8,7 +8,8 @@ ghost use Rattle.asm_hub.specs.Ready.{IsReady};
 use asm_board::{Body, Call, Prepared, Reply};
 use asm_book::{Book, CommitRefusal, Gate, Opening, Token};
 use asm_core::prepare;
-use asm_value::Text;
+use asm_portable::Port;
+use asm_value::{List, Text};
 use std::alloc::{AllocError, Global};
 use std::sync::Wait;
 
@@ -45,6 +46,7 @@ pub fn step(alloc: Global, name: &str) -> Result<Call, AllocError>
 {
     Ok(Call::Step {
         formula: Text::from_str(alloc, name)?,
+        inputs: Port::Fields(List::new(alloc)),
         pick: None,
     })
 }
