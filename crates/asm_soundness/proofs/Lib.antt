@@ -1,0 +1,21 @@
+-- What steps keep.
+pub mod Belonging
+pub mod CheckedModels
+pub mod CheckedNames
+pub mod CheckedRules
+pub mod CheckedTerms
+pub mod Combinations
+pub mod Fits
+pub mod Inputs
+pub mod Leading
+pub mod MembersFit
+pub mod Operations
+pub mod Rules
+pub mod Runs
+pub mod SortedRules
+pub mod Start
+pub mod StatesPass
+pub mod Steps
+pub mod Terms
+pub mod Updates
+pub mod Values
