@@ -9,3 +9,12 @@ pub mod ReadingLaws
 pub mod TreeLaws
 pub mod ValuesLaws
 pub mod WeightLaws
+pub mod MemberValues
+mod Levels
+mod Integers
+mod Members
+mod PartsBack
+mod Back
+mod Found
+mod OwnNames
+mod SameSets

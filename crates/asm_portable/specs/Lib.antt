@@ -5,3 +5,5 @@ pub mod Values
 pub mod Weights
 pub mod Reading
 pub mod Reads
+pub mod ReadPort
+pub mod Naming

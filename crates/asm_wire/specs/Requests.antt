@@ -1,14 +1,14 @@
 -- What a line asks for.
-use Rattle.std.specs.Prelude.{◌≡◌, ℕ, ◌^◌, ◌-◌, Bool, true, false, not, ◌&&◌, ◌⊎◌, nat_le, List, [], ◌∷◌, codes, IsUtf8, if◌then◌else◌, Option, Some, None, option_and_then, is_some, is_none, Ok, Err}
+use Rattle.std.specs.Prelude.{◌≡◌, ℕ, ◌^◌, ◌-◌, Bool, true, false, not, ◌&&◌, ◌⊎◌, nat_le, List, [], ◌∷◌, codes, if◌then◌else◌, Option, Some, None, option_and_then, is_some, is_none, Ok, Err}
 use Rattle.std.specs.Option.{option_map_or}
 use Rattle.std.specs.List.{list_any}
 use Rattle.std.specs.Str.{bytes_eq}
 use Rattle.serde_json.specs.Data.{Data, null, boolean, number, string, array, object, Members, no_members, member}
 use Rattle.serde_json.specs.Find.{get, as_object, as_str, as_number, as_u64}
-use Rattle.serde_json.specs.Read.{read}
 use Rattle.serde_json.specs.Written.{has_float}
 use Rattle.asm_portable.specs.declared.port.Port.{Port}
 use Rattle.asm_portable.specs.Json.{tree_of}
+pub use Rattle.asm_portable.specs.ReadPort.{IsJson}
 use Rattle.asm_portable.specs.Ports.{fields}
 use Rattle.asm_board.specs.declared.call.Call.{Call}
 use Rattle.asm_board.specs.declared.call.Call.TheVariants as call
@@ -209,11 +209,6 @@ call_in request =
     call_by op request))
 
 -- ---- lines
-
--- the line is UTF-8, and the JSON of this tree
-pub record IsJson (line : List ℕ) (tree : Data) : Type 0 where
-  pub utf8 : IsUtf8 line
-  pub reads : read line ≡ Some tree
 
 -- the line is JSON, and asks for this
 pub record AsksIn (line : List ℕ) (asked : Tried Call) : Type 0 where
