@@ -64,7 +64,7 @@ module _ (m : Meanings) (pick : Option ℕ) (slot : Slot) (inputs : List Update)
   steps = yields_at (m.yields slot.content.program (state_before slot inputs) pick) refl
 
 module _ (m : Meanings) (models : Models) (name : List ℕ) (tree : Port) (pick : Option ℕ) where
-  fires : IfOk (step_model m models name tree pick) (FiresItsSet m models name tree pick)
+  pub fires : IfOk (step_model m models name tree pick) (FiresItsSet m models name tree pick)
   fires =
       goes_by (λ slot. slot_in models name ≡ Some slot) (FiresItsSet m models name tree pick) (found m models name) _
       (is_the_one (slot_in models name) (unknown_model name)) (λ slot is.

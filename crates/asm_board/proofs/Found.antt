@@ -21,6 +21,11 @@ goes_on P t go next = goes_by (λ x. t ≡ Ok x) P t go (itself t) next
 pub gives : {A : Type 0} (P : A → Type 0) (t : Tried A) (x : A) → IfOk t P → t ≡ Ok x → P x
 gives {A} P t x h is = subst (λ (r : Tried A). IfOk r P) is h
 
+-- what follows for what is found
+pub weaker : {A : Type 0} {P Q : A → Type 0} (t : Tried A) → ((x : A) → P x → Q x) → IfOk t P → IfOk t Q
+weaker (Ok x) of h = of x h
+weaker (Err why) of h = tt
+
 -- a test that is needed passes
 pub passes : (t : Bool) (why : Refusal) → IfOk (needs t why) (λ _. t ≡ true)
 passes true why = refl

@@ -11,6 +11,7 @@ pub mod StillStands
 pub mod Legal
 pub mod Firing
 pub mod Kept
+pub mod Changing
 pub mod Wholes
 pub mod Entries
 pub mod Listed

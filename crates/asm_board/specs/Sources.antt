@@ -5,10 +5,10 @@ use Rattle.asm_value.specs.declared.domain.Domain.TheVariants.{Truth}
 use Rattle.asm_program.specs.declared.checked.CheckedTerm.{CheckedTerm}
 use Rattle.asm_program.specs.declared.program.Inv.{Inv}
 use Rattle.asm_program.specs.declared.program.Program.{Program}
-use Rattle.asm_board.specs.declared.board.Slot.{Slot}
 use Rattle.asm_board.specs.Meanings.{Meanings}
 use Rattle.asm_board.specs.Contents.{Contents}
-use Rattle.asm_board.specs.Slots.{Models, pairs_of}
+use Rattle.asm_board.specs.Slots.{Models}
+use Rattle.asm_board.specs.Trails.{EachIsThroughout}
 
 module _ (m : Meanings) where
   -- it is one of the text's, or it was added, and its source is the text of its Boolean term
@@ -21,10 +21,6 @@ module _ (m : Meanings) where
   abbrev pub HaveSources : Contents → Type 0
   HaveSources content = AllByRecursion (HasSource content.program) content.invs
 
-  -- those of the present content and of each earlier one that is remembered
-  pub record KeepsSources (slot : Slot) : Type 0 where
-    pub present : HaveSources slot.content
-    pub earlier : AllByRecursion (λ pair. HaveSources pair.content) (pairs_of slot)
-
+  -- those of each content, and of each earlier one that is remembered
   abbrev pub EachKeepsSources : Models → Type 0
-  EachKeepsSources models = AllByRecursion (λ model. KeepsSources model.slot) models
+  EachKeepsSources models = EachIsThroughout HaveSources models

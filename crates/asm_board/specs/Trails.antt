@@ -8,13 +8,17 @@ use Rattle.asm_board.specs.Slots.{Models, pairs_of, most_pairs, no_trail, rememb
 
 -- ---- each slot
 
--- its state is light and meets its invariants, and so does each earlier one that it remembers
-pub record MeetsItsInvariants (slot : Slot) : Type 0 where
-  pub present : IsContent slot.content
-  pub earlier : AllByRecursion (λ pair. IsContent pair.content) (pairs_of slot)
+-- it is so of the slot's content, and of each earlier one that it remembers
+pub record IsThroughout (P : Contents → Type 0) (slot : Slot) : Type 0 where
+  pub present : P slot.content
+  pub earlier : AllByRecursion (λ pair. P pair.content) (pairs_of slot)
 
+abbrev pub EachIsThroughout : (Contents → Type 0) → Models → Type 0
+EachIsThroughout P models = AllByRecursion (λ model. IsThroughout P model.slot) models
+
+-- each state is light and meets its invariants
 abbrev pub EachMeetsItsInvariants : Models → Type 0
-EachMeetsItsInvariants models = AllByRecursion (λ model. MeetsItsInvariants model.slot) models
+EachMeetsItsInvariants models = EachIsThroughout IsContent models
 
 -- it remembers no more pairs than are kept
 abbrev pub HasFewPairs : Slot → Type 0
