@@ -7,3 +7,5 @@ pub mod Sources
 pub mod Standing
 pub mod Stepping
 pub mod Works
+pub mod Inputs
+pub mod WellFormed

@@ -3,3 +3,4 @@ pub mod Preparing
 pub mod Servers
 pub mod Works
 pub mod World
+pub mod Wholes

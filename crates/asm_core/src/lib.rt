@@ -10,6 +10,6 @@ mod reads;
 mod steps;
 mod texts;
 
-pub use laws::world;
+pub use laws::{each_state_is_well_formed, world};
 pub use one::One;
 pub use preparation::prepare;
