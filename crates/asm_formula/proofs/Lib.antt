@@ -1,0 +1,13 @@
+pub mod Counts
+pub mod Depths
+pub mod Endings
+pub mod Exactness
+pub mod Lexed
+pub mod Lists
+pub mod Longest
+pub mod Meanings
+pub mod Names
+pub mod Places
+pub mod Repeats
+pub mod Samples
+pub mod Turns
