@@ -4,6 +4,7 @@ mod Digits
 mod Named
 pub mod Ascending
 pub mod PortLaws
+pub mod PortOrder
 pub mod JsonLaws
 pub mod ReadingLaws
 pub mod TreeLaws

@@ -1,5 +1,6 @@
 pub mod Ascending
 pub mod Ports
+pub mod Order
 pub mod Json
 pub mod Values
 pub mod Weights

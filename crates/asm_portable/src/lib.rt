@@ -4,6 +4,7 @@
 mod json;
 mod laws;
 mod leaves;
+mod order;
 mod port;
 mod reader;
 mod reading;
@@ -16,6 +17,7 @@ pub use laws::{
     a_value_is_read_back_from_its_tree, an_integer_is_read_from_its_own_digits,
     what_is_read_is_a_value_of_the_domain,
 };
+pub use order::compare_trees;
 pub use port::{Field, Port, push_field, put_field};
 pub use reader::{PortRefusal, has_float, read_port};
 pub use reading::{PortableRefusal, value_of};
