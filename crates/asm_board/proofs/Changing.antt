@@ -15,21 +15,23 @@ use Rattle.asm_board.specs.declared.board.Slot.{Slot}
 use Rattle.asm_board.specs.declared.call.Call.{Call}
 use Rattle.asm_board.specs.declared.call.Call.TheVariants as call
 use Rattle.asm_board.specs.declared.entry.Entry.{Entry}
+use Rattle.asm_board.specs.declared.prepared.News.{News}
+use Rattle.asm_board.specs.declared.prepared.Accepted.{Accepted}
 use Rattle.asm_board.specs.declared.refusal.RefusalName.TheVariants as no
 use Rattle.asm_board.specs.declared.trail.TrailPair.{TrailPair}
 use Rattle.asm_board.specs.Meanings.{Meanings}
 use Rattle.asm_board.specs.Contents.{Contents}
 use Rattle.asm_board.specs.Stepping.{start}
-use Rattle.asm_board.specs.Steps.{FiresItsSet, content_after}
+use Rattle.asm_board.specs.Steps.{FiresItsSet, FireTheirSets}
 use Rattle.asm_board.specs.Refusals.{needs, is_there, of_model, bad_name, bad_text, broken, unknown_model, inv_taken, unknown_inv, invs_full}
-use Rattle.asm_board.specs.Slots.{Models, News, slot_in, pairs_of, most_pairs, newest, trail_after, at_version, new_slot, new_slots}
+use Rattle.asm_board.specs.Slots.{Models, slot_in, pairs_of, most_pairs, newest, trail_after, at_version, new_slot, new_slots}
 use Rattle.asm_board.specs.Trails.{IsThroughout, EachIsThroughout}
 use Rattle.asm_board.specs.Calls.{footprint, is_change}
-use Rattle.asm_board.specs.Changes.{Accepted, Change, is_right_name, invariant_limit, work_limit, has_invariant, whole_work, unless_bad, too_much_work, added_invariant, with_invariant, without_invariant, lacks_version, content_at, program_in, loaded, not_taken, found, condition_in, with_held, added, load, unload, step_model, becomes, add_invariant, drop_invariant, rollback, change}
+use Rattle.asm_board.specs.Changes.{Change, is_right_name, invariant_limit, work_limit, has_invariant, whole_work, unless_bad, too_much_work, added_invariant, with_invariant, without_invariant, lacks_version, content_at, program_in, loaded, not_taken, found, condition_in, with_held, added, load, unload, step_models, add_invariant, drop_invariant, rollback, change}
 use Rattle.asm_board.specs.Boards.{slots_of_change, spoken_of, board_of}
 use Rattle.asm_board.proofs.Contents.{IfDone, done_content}
 use Rattle.asm_board.proofs.Found.{goes_on, goes_by, weaker, passes, there, mapped, found_among}
-use Rattle.asm_board.proofs.Firing.{fires}
+use Rattle.asm_board.proofs.Fired.{fires, news_have}
 use Rattle.asm_board.proofs.Kept.{each_slot, only_each, board_each}
 
 none_is : {A : Type 0} (o : Option A) → is_none o ≡ true → o ≡ None
@@ -48,8 +50,7 @@ program_is (Err bad) = tt
 -- and where an invariant that holds is added or one is dropped.
 pub record StaysSo (m : Meanings) (P : Contents → Type 0) : Type 0 where
   pub starts : (source : List ℕ) (program : Program) → m.program_of source ≡ Ok program → IfDone (start m program) P
-  pub steps : (models : Models) (name : List ℕ) (tree : Port) (pick : Option ℕ) (step : Accepted) (fired : FiresItsSet m models name tree pick step)
-      → P fired.slot.content → P (content_after fired.slot fired.inputs fired.updates)
+  pub steps : (models : Models) (tree : Port) (pick : Option ℕ) (leaf : List ℕ × Contents) (fired : FiresItsSet m models tree pick leaf) → P fired.slot.content → P leaf.1
   pub more : (content : Contents) (inv source : List ℕ) (term : CheckedTerm) → P content → m.term_of content.program (Some Truth) source ≡ Ok term
       → first_broken content.program content.state (added_invariant inv source term ∷ []) ≡ None → P (with_invariant content (added_invariant inv source term))
   pub fewer : (content : Contents) (name : List ℕ) → P content → P (without_invariant content name)
@@ -106,13 +107,17 @@ module _ (m : Meanings) (P : Contents → Type 0) (stays : StaysSo m P) where
     slot_is : (slot : Slot) (o : Option Slot) → o ≡ Some slot → IfSome o W → W slot
     slot_is slot o is so = subst (λ (x : Option Slot). IfSome x W) is so
 
-    fired_is : (name : List ℕ) (tree : Port) (pick : Option ℕ) (a : Accepted) → FiresItsSet m models name tree pick a → AreSo a
-    fired_is name tree pick a f =
-        subst (AllByRecursion (λ (n : News). IfSome n.content P)) (sym f.news)
-        (stays.steps models name tree pick a f (slot_is f.slot (slot_in models name) f.found (each_slot W aged models name all)).present, tt)
+    fired_is : (tree : Port) (pick : Option ℕ) (name : List ℕ) (content : Contents) → FiresItsSet m models tree pick (name, content) → P content
+    fired_is tree pick name content f =
+        stays.steps models tree pick (name, content) f (slot_is f.slot (slot_in models name) f.found (each_slot W aged models name all)).present
 
-    step_is : (name : List ℕ) (tree : Port) (pick : Option ℕ) → IfOk (step_model m models name tree pick) AreSo
-    step_is name tree pick = weaker (step_model m models name tree pick) (fired_is name tree pick) (fires m models name tree pick)
+    steps_are : (source : List ℕ) (tree : Port) (pick : Option ℕ) (a : Accepted) → FireTheirSets m models source tree pick a → AreSo a
+    steps_are source tree pick a f =
+        subst (AllByRecursion (λ (n : News). IfSome n.content P)) (sym f.news)
+        (news_have m models tree pick P (fired_is tree pick) f.leaves f.each)
+
+    step_is : (source : List ℕ) (tree : Port) (pick : Option ℕ) → IfOk (step_models m models source tree pick) AreSo
+    step_is source tree pick = weaker (step_models m models source tree pick) (steps_are source tree pick) (fires m models tree pick source)
 
     add_is : (name inv source : List ℕ) → IfOk (add_invariant m models name inv source) AreSo
     add_is name inv source =
@@ -133,12 +138,15 @@ module _ (m : Meanings) (P : Contents → Type 0) (stays : StaysSo m P) where
         (there P (content_at slot to) (lacks_version name slot) (earlier_is slot to so)) (λ content new. (new, tt)))
 
     change_is : (c : Call) → IfOk (change m models c) AreSo
-    change_is (call.Run source count pick) = tt
+    change_is (call.Run source count pick since) = tt
     change_is (call.Load name source) = load_is models name source
     change_is (call.Unload name) = unload_is models name
     change_is (call.Step formula inputs pick) = step_is formula inputs pick
-    change_is (call.State name) = tt
-    change_is call.Models = tt
+    change_is (call.State name since) = tt
+    change_is (call.Value name term since) = tt
+    change_is (call.ShowText name since) = tt
+    change_is (call.Models since) = tt
+    change_is (call.Log from count since) = tt
     change_is (call.AddInvariant name inv term) = add_is name inv term
     change_is (call.DropInvariant name inv) = drop_is name inv
     change_is (call.Rollback name to) = rollback_is name to

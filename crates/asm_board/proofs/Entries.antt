@@ -11,15 +11,16 @@ use Rattle.asm_board.specs.declared.entry.Entry.{Entry}
 use Rattle.asm_board.specs.declared.reply.Body.{Body}
 use Rattle.asm_board.specs.declared.reply.Body.TheVariants as bodies
 use Rattle.asm_board.specs.declared.prepared.Prepared.{Prepared}
-use Rattle.asm_board.specs.Calls.{is_change, entry_weight}
+use Rattle.asm_board.specs.Calls.{is_change, is_log, entry_weight}
 use Rattle.asm_board.specs.Changes.{Change}
 use Rattle.asm_board.specs.Meanings.{Meanings}
-use Rattle.asm_board.specs.Boards.{model_limit, empty_board, body_of_change, body_of_read, weight_of_change, body_weight, with_entry, change_at, body_at, slots_at, weight_at, loads_at, applied, board_of}
-use Rattle.asm_board.specs.Reads.{read}
+use Rattle.asm_board.specs.Boards.{model_limit, empty_board, body_of_change, read_at, weight_of_change, body_weight, with_entry, change_at, body_at, slots_at, weight_at, loads_at, applied, board_of}
+use Rattle.asm_board.specs.Logs.{log_of}
 use Rattle.asm_board.specs.Refusals.{models_full, journal_full}
 use Rattle.asm_board.specs.Replies.{tail_of}
 use Rattle.asm_board.specs.Journals.{IsAnswer, IsAcceptedChange, entries_weight}
 use Rattle.asm_board.specs.Answers.{Answer, told, without_entry, entry_at, with_room, outcome_of, answer_change, answer_at, answer, LegalFrom, Legal, Stands}
+use Rattle.asm_board.proofs.CallKinds.{no_log}
 use Rattle.asm_board.proofs.Legal.{answer_at_of}
 
 -- ---- an entry
@@ -64,7 +65,7 @@ weighs c (Ok a) tree is = ap (entry_weight c) (ok_is a.ok tree is)
 weighs c (Err why) tree is = absurd (cc (is))
 
 pub weighs_at : (m : Meanings) (board : Board) (c : Call) (tree : Port) (t : Bool) → t ≡ true
-    → (if t then body_of_change (change_at m board c) else body_of_read (read m board.slots c)) ≡ bodies.Ok tree
+    → (if t then body_of_change (change_at m board c) else read_at m board c) ≡ bodies.Ok tree
     → (if t then weight_of_change c (change_at m board c) else 0) ≡ entry_weight c tree
 weighs_at m board c tree true is ok = weighs c (change_at m board c) tree ok
 weighs_at m board c tree false is ok = absurd (cc (is))
@@ -125,8 +126,14 @@ module _ (m : Meanings) (room : ℕ) where
   entered_at : (board : Board) (seat : ℕ) (c : Call) → EnteredWhereAccepted c (answer_at m room board seat c)
   entered_at board seat c = entered_where board seat c (is_change c) refl
 
+  entered_by : (journal : List Entry) (seat : ℕ) (c : Call) (t : Bool) → is_log c ≡ t
+      → EnteredWhereAccepted c (cond t (without_entry (length journal) (log_of journal c)) (answer_at m room (board_of m journal) seat c))
+  entered_by journal seat c true is =
+      (λ some. absurd (true≢false (sym some)), λ accepted. let unlike : true ≡ false = sym is ∙ no_log c accepted.changes in absurd (cc (unlike)))
+  entered_by journal seat c false is = entered_at (board_of m journal) seat c
+
   pub entered : (journal : List Entry) (seat : ℕ) (c : Call) → EnteredWhereAccepted c (answer m room journal seat c)
-  entered journal seat c = entered_at (board_of m journal) seat c
+  entered journal seat c = entered_by journal seat c (is_log c) refl
 
   -- ---- each entry of a legal journal
 

@@ -11,7 +11,8 @@ use Rattle.asm_board.specs.declared.entry.Entry.{Entry}
 use Rattle.asm_board.specs.Meanings.{Meanings}
 use Rattle.asm_board.specs.Refusals.{models_full, journal_full}
 use Rattle.asm_board.specs.Replies.{tail_of}
-use Rattle.asm_board.specs.Calls.{is_change}
+use Rattle.asm_board.specs.Calls.{is_change, is_log}
+use Rattle.asm_board.specs.Logs.{log_of}
 use Rattle.asm_board.specs.Boards.{model_limit, empty_board, body_at, loads_at, weight_at, applied, board_of}
 use Rattle.asm_board.specs.Answers.{Answer, without_entry, told, entry_at, with_room, outcome, answer_change, answer_at, answer, Legal, LegalFrom}
 use Rattle.asm_board.specs.Numbers.{IsNext, HasNumber, TellsItsNumber}
@@ -49,6 +50,17 @@ module _ (m : Meanings) (room : ℕ) where
   pub answer_at_of : (b : Board) (seat : ℕ) (c : Call) (e : Entry) → (answer_at m room b seat c).entry ≡ Some e → IsNext b.front seat c (answer_at m room b seat c).reply e
   answer_at_of b seat c e is = entry_is b.front seat c (answer_at m room b seat c) e (answer_at_tells m room b seat c (is_change c)) is
 
+  made_by : (journal : List Entry) (seat : ℕ) (c : Call) (e : Entry) (t : Bool)
+      → (cond t (without_entry (length journal) (log_of journal c)) (answer_at m room (board_of m journal) seat c)).entry ≡ Some e
+      → (answer_at m room (board_of m journal) seat c).entry ≡ Some e
+  made_by journal seat c e true is = absurd (cc (is))
+  made_by journal seat c e false is = is
+
+  -- an entry after a journal is one at its board, since a log has none
+  pub made_at : (journal : List Entry) (seat : ℕ) (c : Call) (e : Entry) → (answer m room journal seat c).entry ≡ Some e
+      → (answer_at m room (board_of m journal) seat c).entry ≡ Some e
+  made_at journal seat c e is = made_by journal seat c e (is_log c) is
+
   -- ---- the journal stays legal
 
   legal_push : (xs : List Entry) (e : Entry) (b : Board) → LegalFrom m room b xs → (answer_at m room (fold (applied m) b xs) e.seat e.call).entry ≡ Some e → LegalFrom m room b (xs ++ e ∷ [])
@@ -59,9 +71,10 @@ module _ (m : Meanings) (room : ℕ) where
   unfolding board_of
   legal_with journal seat c None h is = subst (Legal m room) (sym (append-nil journal)) h
   legal_with journal seat c (Some e) h is =
-      let of = answer_at_of (board_of m journal) seat c e is in
+      let made = made_at journal seat c e is in
+      let of = answer_at_of (board_of m journal) seat c e made in
       legal_push journal e empty_board h
-      (ap (λ s. (answer_at m room (board_of m journal) s e.call).entry) of.of_seat ∙ ap (λ d. (answer_at m room (board_of m journal) seat d).entry) of.of_call ∙ is)
+      (ap (λ s. (answer_at m room (board_of m journal) s e.call).entry) of.of_seat ∙ ap (λ d. (answer_at m room (board_of m journal) seat d).entry) of.of_call ∙ made)
 
   pub grows_legally : (journal : List Entry) (seat : ℕ) (c : Call) → Legal m room journal → Legal m room (journal ++ option_to_list (answer m room journal seat c).entry)
   grows_legally journal seat c h = legal_with journal seat c (answer m room journal seat c).entry h refl
@@ -76,7 +89,14 @@ pub front_is : (m : Meanings) (journal : List Entry) → (board_of m journal).fr
 unfolding board_of
 front_is m journal = omega (arith, front-fold m journal empty_board)
 
+tells_by : (m : Meanings) (room : ℕ) (journal : List Entry) (seat : ℕ) (c : Call) (t : Bool)
+    → TellsItsNumber (length journal) seat c (answer_at m room (board_of m journal) seat c)
+    → TellsItsNumber (length journal) seat c (cond t (without_entry (length journal) (log_of journal c)) (answer_at m room (board_of m journal) seat c))
+tells_by m room journal seat c true h = refl
+tells_by m room journal seat c false h = h
+
 -- after a journal, an answer tells the number of entries
 pub tells_its_number : (m : Meanings) (room : ℕ) (journal : List Entry) (seat : ℕ) (c : Call) → TellsItsNumber (length journal) seat c (answer m room journal seat c)
 tells_its_number m room journal seat c =
-    subst (λ n. TellsItsNumber n seat c (answer m room journal seat c)) (front_is m journal) (answer_at_tells m room (board_of m journal) seat c (is_change c))
+    tells_by m room journal seat c (is_log c)
+    (subst (λ n. TellsItsNumber n seat c (answer_at m room (board_of m journal) seat c)) (front_is m journal) (answer_at_tells m room (board_of m journal) seat c (is_change c)))

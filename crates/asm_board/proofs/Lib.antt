@@ -2,13 +2,17 @@
 pub mod Found
 pub mod Contents
 pub mod Slots
+pub mod CallKinds
 pub mod FirstClash
 pub mod Puts
+pub mod Fired
 pub mod Others
 pub mod Boards
 pub mod Journals
 pub mod StillStands
 pub mod Legal
+pub mod Waiting
+pub mod Asked
 pub mod Firing
 pub mod Kept
 pub mod Changing

@@ -6,9 +6,12 @@ use Rattle.std.specs.Str.{bytes_eq}
 use Rattle.std.specs.Ordering.{nat_cmp}
 use Rattle.std.specs.Cmp.Lexicographic.{slice_cmp}
 use Rattle.std.proofs.lemmas.List.Kept.{IsStrictlySortedBy-filter}
+use Rattle.asm_formula.specs.Formulas.{names}
+use Rattle.asm_formula.specs.Reading.{formula_of}
 use Rattle.asm_portable.proofs.Ascending.{none_ascends, put_by-ascends}
 use Rattle.asm_portable.specs.declared.port.Port.{Port}
-use Rattle.asm_portable.specs.Ports.{fields_of}
+use Rattle.asm_board.specs.declared.prepared.News.{News}
+use Rattle.asm_board.specs.declared.prepared.Accepted.{Accepted}
 use Rattle.asm_board.specs.declared.board.Board.{Board}
 use Rattle.asm_board.specs.declared.board.Slot.{Slot}
 use Rattle.asm_board.specs.declared.board.NamedSlot.{NamedSlot}
@@ -18,15 +21,16 @@ use Rattle.asm_board.specs.declared.entry.Entry.{Entry}
 use Rattle.asm_board.specs.declared.prepared.Changed.{Changed}
 use Rattle.asm_board.specs.Meanings.{Meanings}
 use Rattle.asm_board.specs.Contents.{Contents}
-use Rattle.asm_board.specs.Inputs.{given}
-use Rattle.asm_board.specs.Refusals.{needs, is_there, of_model, bad_name, inv_taken, unknown_inv, invs_full}
-use Rattle.asm_board.specs.Slots.{Models, News, named, slot_in, at_version, without, changed_to, changed, new_slot, slot_of_news, new_slots, AscendByName}
-use Rattle.asm_board.specs.Calls.{footprint, is_change}
-use Rattle.asm_board.specs.Changes.{Accepted, Change, is_right_name, invariant_limit, has_invariant, lacks_version, content_at, loaded, not_taken, found, stepped_from, added, load, unload, step_model, add_invariant, drop_invariant, rollback, change}
+use Rattle.asm_board.specs.Refusals.{needs, is_there, bad_name, inv_taken, unknown_inv, invs_full}
+use Rattle.asm_board.specs.Slots.{Models, named, slot_in, at_version, without, changed_to, changed, new_slot, slot_of_news, new_slots, AscendByName}
+use Rattle.asm_board.specs.Calls.{names_in, footprint, is_change}
+use Rattle.asm_board.specs.Steps.{FireTheirSets}
+use Rattle.asm_board.specs.Changes.{Change, is_right_name, invariant_limit, has_invariant, lacks_version, content_at, loaded, not_taken, found, news_of, added, load, unload, step_models, add_invariant, drop_invariant, rollback, change}
 use Rattle.asm_board.specs.Boards.{empty_board, slots_of_change, spoken_of, slots_at, applied, board_of}
 use Rattle.asm_board.specs.Trails.{Follows, Stays, Goes, Comes, Remembers, Begins, slot_after}
-use Rattle.asm_board.proofs.Found.{goes_on}
-use Rattle.asm_board.proofs.Puts.{one_name, slot_in-put, slot_in-without, slot_in-changed_to_other, slot_in-only, other_name}
+use Rattle.asm_board.proofs.Found.{goes_on, weaker}
+use Rattle.asm_board.proofs.Fired.{fires}
+use Rattle.asm_board.proofs.Puts.{one_name, slot_in-put, slot_in-without, slot_in-changed_to_other, slot_in-only, other_name, contains_each}
 
 -- ---- the models that an accepted change makes anew are of its footprint
 
@@ -47,11 +51,21 @@ module _ (m : Meanings) where
   unload_news models name =
       goes_on (NewsOf (name ∷ [])) (found m models name) _ (λ slot _. (the_one name, tt))
 
-  step_news : (models : Models) (name : List ℕ) (tree : Port) (pick : Option ℕ) → IfOk (step_model m models name tree pick) (NewsOf (name ∷ []))
-  step_news models name tree pick =
-      goes_on (NewsOf (name ∷ [])) (found m models name) _ (λ slot _.
-      goes_on (NewsOf (name ∷ [])) (given name slot.content (fields_of tree)) _ (λ inputs _.
-      goes_on (NewsOf (name ∷ [])) (stepped_from m (of_model name) pick slot.content inputs) _ (λ content _. (the_one name, tt))))
+  -- the news of a step are of the models of its formula
+  leaves_among : (ns : List (List ℕ)) (leaves : List (List ℕ × Contents)) → AllByRecursion (Contains ns) (map (λ (l : List ℕ × Contents). l.0) leaves)
+      → AllByRecursion (λ (n : News). Contains ns n.name) (news_of leaves)
+  leaves_among ns [] all = tt
+  leaves_among ns (l ∷ ls) all = (all.0, leaves_among ns ls all.1)
+
+  fired_news : (models : Models) (source : List ℕ) (tree : Port) (pick : Option ℕ) (a : Accepted) → FireTheirSets m models source tree pick a → NewsOf (names_in (formula_of source)) a
+  fired_news models source tree pick a f =
+      subst (λ ns. AllByRecursion (λ (n : News). Contains ns n.name) a.news) (sym (ap names_in f.read))
+      (subst (AllByRecursion (λ (n : News). Contains (names f.formula) n.name)) (sym f.news)
+      (leaves_among (names f.formula) f.leaves (subst (AllByRecursion (Contains (names f.formula))) (sym f.are_its_models) (contains_each (names f.formula)))))
+
+  step_news : (models : Models) (source : List ℕ) (tree : Port) (pick : Option ℕ) → IfOk (step_models m models source tree pick) (NewsOf (names_in (formula_of source)))
+  step_news models source tree pick =
+      weaker (step_models m models source tree pick) (fired_news models source tree pick) (fires m models tree pick source)
 
   add_news : (models : Models) (name inv source : List ℕ) → IfOk (add_invariant m models name inv source) (NewsOf (name ∷ []))
   add_news models name inv source =
@@ -71,12 +85,15 @@ module _ (m : Meanings) where
       goes_on (NewsOf (name ∷ [])) (is_there (content_at slot to) (lacks_version name slot)) _ (λ content _. (the_one name, tt)))
 
   pub change_news : (models : Models) (c : Call) → IfOk (change m models c) (NewsOf (footprint c))
-  change_news models (call.Run source steps pick) = tt
+  change_news models (call.Run source steps pick since) = tt
   change_news models (call.Load name source) = load_news models name source
   change_news models (call.Unload name) = unload_news models name
   change_news models (call.Step formula inputs pick) = step_news models formula inputs pick
-  change_news models (call.State name) = tt
-  change_news models call.Models = tt
+  change_news models (call.State name since) = tt
+  change_news models (call.Value name term since) = tt
+  change_news models (call.ShowText name since) = tt
+  change_news models (call.Models since) = tt
+  change_news models (call.Log from count since) = tt
   change_news models (call.AddInvariant name inv term) = add_news models name inv term
   change_news models (call.DropInvariant name inv) = drop_news models name inv
   change_news models (call.Rollback name to) = rollback_news models name to

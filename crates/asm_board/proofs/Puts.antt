@@ -1,6 +1,6 @@
 -- A slot that is put among models stands under its name, what is taken away stands there no more, and each other name has the slot that it had.
 use Rattle.std.proofs.Common.{Bool, true, false, cond, not, ◌≡◌, ◌≢◌, ◌⊎◌, inl, inr, ⊎_elim, ℕ, List, [], ◌∷◌, ◌++◌, Some, None, Option, refl, sym, ap, subst, ◌∙◌}
-use Rattle.std.specs.List.{Contains}
+use Rattle.std.specs.List.{AllByRecursion, Contains}
 use Rattle.std.specs.Str.{bytes_eq}
 use Rattle.std.specs.Ordering.{nat_cmp}
 use Rattle.std.specs.Cmp.Lexicographic.{slice_cmp, nat_list_cmp_total}
@@ -11,7 +11,7 @@ use Rattle.std.proofs.lemmas.Slice.Eq.{bytes_eq-Decides}
 use Rattle.asm_board.specs.declared.board.Slot.{Slot}
 use Rattle.asm_board.specs.declared.board.NamedSlot.{NamedSlot}
 use Rattle.std.specs.FinMap.{nat_cmp-IsAntisymmetric, slice_cmp-IsAntisymmetric}
-use Rattle.asm_portable.proofs.Ascending.{Has, Has-from_Contains}
+use Rattle.asm_portable.proofs.Ascending.{Has, Has-from_Contains, Contains-from_Has}
 use Rattle.asm_board.specs.Slots.{Models, named, slot_in, listed, only, put, without, at_version, changed_to}
 
 -- ---- names
@@ -129,7 +129,7 @@ only_at ms n ns q true is rest =
 only_at ms n ns q false is rest =
     listed_later n (slot_in ms n) (only ms ns) q (other_name q n is) ∙ rest (other_name q n is)
 
-only_has : (ms : Models) (names : List (List ℕ)) (q : List ℕ) → Has names q → slot_in (only ms names) q ≡ slot_in ms q
+pub only_has : (ms : Models) (names : List (List ℕ)) (q : List ℕ) → Has names q → slot_in (only ms names) q ≡ slot_in ms q
 only_has ms [] q h = absurd h
 only_has ms (n ∷ ns) q h =
     only_at ms n ns q (bytes_eq q n) refl (λ differs. ⊎_elim (λ e. absurd (differs (sym e))) (λ later. only_has ms ns q later) h)
@@ -137,3 +137,45 @@ only_has ms (n ∷ ns) q h =
 -- each of these names has the slot that it has among all models
 pub slot_in-only : (ms : Models) (names : List (List ℕ)) (q : List ℕ) → Contains names q → slot_in (only ms names) q ≡ slot_in ms q
 slot_in-only ms names q h = only_has ms names q (Has-from_Contains names q h)
+
+some_listed : (ms : Models) (n : List ℕ) (ns : List (List ℕ)) (q : List ℕ) (s : Slot) (o : Option Slot) (t : Bool) → slot_in ms n ≡ o → bytes_eq q n ≡ t
+    → (slot_in (only ms ns) q ≡ Some s → slot_in ms q ≡ Some s) → slot_in (listed n o ++ only ms ns) q ≡ Some s → slot_in ms q ≡ Some s
+some_listed ms n ns q s None t at test rest is = rest is
+some_listed ms n ns q s (Some u) true at test rest is =
+    ap (slot_in ms) (one_name q n test) ∙ at ∙ sym (ap (λ b. cond b (Some u) (slot_in (only ms ns) q)) test) ∙ is
+some_listed ms n ns q s (Some u) false at test rest is = rest (sym (ap (λ b. cond b (Some u) (slot_in (only ms ns) q)) test) ∙ is)
+
+-- what is among some models is among all
+pub some_only : (ms : Models) (names : List (List ℕ)) (q : List ℕ) (s : Slot) → slot_in (only ms names) q ≡ Some s → slot_in ms q ≡ Some s
+some_only ms [] q s is = absurd (cc (is))
+some_only ms (n ∷ ns) q s is = some_listed ms n ns q s (slot_in ms n) (bytes_eq q n) refl refl (some_only ms ns q s) is
+
+-- ---- the models of the same names again
+
+only_each : (ks bs : Models) (ns : List (List ℕ)) → AllByRecursion (λ n. slot_in ks n ≡ slot_in bs n) ns → only ks ns ≡ only bs ns
+only_each ks bs [] same = refl
+only_each ks bs (n ∷ ns) same = (λ i. listed n (same.0 i) ++ only ks ns) ∙ ap (λ ms. listed n (slot_in bs n) ++ ms) (only_each ks bs ns same.1)
+
+has_more : (n : List ℕ) (ns qs : List (List ℕ)) → AllByRecursion (Has ns) qs → AllByRecursion (Has (n ∷ ns)) qs
+has_more n ns [] all = tt
+has_more n ns (q ∷ qs) all = (inr all.0, has_more n ns qs all.1)
+
+has_each : (ns : List (List ℕ)) → AllByRecursion (Has ns) ns
+has_each [] = tt
+has_each (n ∷ ns) = (inl refl, has_more n ns ns (has_each ns))
+
+same_each : (ms : Models) (ns qs : List (List ℕ)) → AllByRecursion (Has ns) qs → AllByRecursion (λ q. slot_in (only ms ns) q ≡ slot_in ms q) qs
+same_each ms ns [] all = tt
+same_each ms ns (q ∷ qs) all = (only_has ms ns q all.0, same_each ms ns qs all.1)
+
+-- the models of some names among the models of these names
+pub only_again : (ms : Models) (ns : List (List ℕ)) → only (only ms ns) ns ≡ only ms ns
+only_again ms ns = only_each (only ms ns) ms ns (same_each ms ns ns (has_each ns))
+
+contained : (ns qs : List (List ℕ)) → AllByRecursion (Has ns) qs → AllByRecursion (Contains ns) qs
+contained ns [] all = tt
+contained ns (q ∷ qs) all = (Contains-from_Has ns q all.0, contained ns qs all.1)
+
+-- each of these names is among them
+pub contains_each : (ns : List (List ℕ)) → AllByRecursion (Contains ns) ns
+contains_each ns = contained ns ns (has_each ns)

@@ -51,7 +51,7 @@ module _ (m : Meanings) where
   stays_sourced : StaysSo m (HaveSources m)
   stays_sourced = record {
     starts = λ source program is. started_has program (m.initial program);
-    steps = λ models name tree pick step fired before. before;
+    steps = λ models tree pick leaf fired before. subst (HaveSources m) (sym fired.is) before;
     more = λ content inv source term has is none. one_more content inv source term has is;
     fewer = one_less;
   }

@@ -1,5 +1,5 @@
 -- What was prepared at a beginning of a journal stands after it, where its versions are the same.
-use Rattle.std.proofs.Common.{true, cond, eq-eqb, ◌≡◌, ℕ, List, [], ◌∷◌, fold, Some, None, refl, sym, ap, subst, ◌∙◌}
+use Rattle.std.proofs.Common.{true, false, cond, eq-eqb, ◌≡◌, ℕ, List, [], ◌∷◌, fold, Some, None, refl, sym, ap, subst, ◌∙◌}
 use Rattle.std.proofs.lemmas.List.Sums.{fold-append}
 use mathlib.Core.List.{IsPrefix}
 use Rattle.asm_board.specs.declared.board.Board.{Board}
@@ -8,18 +8,18 @@ use Rattle.asm_board.specs.declared.entry.Entry.{Entry}
 use Rattle.asm_board.specs.declared.prepared.Prepared.{Prepared}
 use Rattle.asm_board.specs.Meanings.{Meanings}
 use Rattle.asm_board.specs.Slots.{slot_in, versions_in}
-use Rattle.asm_board.specs.Calls.{footprint, is_change}
+use Rattle.asm_board.specs.Calls.{footprint, is_change, is_log}
 use Rattle.asm_board.specs.Changes.{change}
-use Rattle.asm_board.specs.Reads.{read}
 use Rattle.asm_board.specs.Replies.{tail_of}
-use Rattle.asm_board.specs.Boards.{empty_board, version_of, body_of_change, body_of_read, slots_of_change, weight_of_change, is_new_model, spoken_of, change_at, body_at, versions_at, applied, board_of}
+use Rattle.asm_board.specs.Boards.{empty_board, version_of, body_of_change, read_at, slots_of_change, weight_of_change, is_new_model, spoken_of, change_at, body_at, versions_at, applied, board_of}
 use Rattle.asm_board.specs.Answers.{answer, Stands, Settled, first_stale, settle}
+use Rattle.asm_board.proofs.CallKinds.{no_log}
 use Rattle.asm_board.proofs.Boards.{Grows, grows, fits, none_fits, same_slot, same_models}
 
 module _ (m : Meanings) where
   -- the body of a change is that of the models of which it speaks
   body_of_a_change : (b : Board) (c : Call) → is_change c ≡ true → body_at m b c ≡ body_of_change (change_at m b c)
-  body_of_a_change b c is = ap (λ t. cond t (body_of_change (change_at m b c)) (body_of_read (read m b.slots c))) is
+  body_of_a_change b c is = ap (λ t. cond t (body_of_change (change_at m b c)) (read_at m b c)) is
 
   -- equal versions of a change's models mean that these models are the same
   pub same_spoken : (prefix journal : List Entry) (c : Call) → IsPrefix prefix journal → versions_at (board_of m prefix) c ≡ versions_at (board_of m journal) c
@@ -63,4 +63,5 @@ module _ (m : Meanings) where
   settled_is_answered room journal seat p c is s =
       let b : Board = board_of m journal in
       let fresh : first_stale p.versions b ≡ None = ap (λ vs. first_stale vs b) s.versions ∙ none_stale b (footprint c) in
-      rw (fresh, s.is_call, s.loads, s.weight, s.body, s.tail, is) refl
+      let log : is_log c ≡ false = no_log c is in
+      rw (log, fresh, s.is_call, s.loads, s.weight, s.body, s.tail, is) refl

@@ -9,11 +9,12 @@ use Rattle.asm_program.specs.Initial.{Started, Starts, StartFaults}
 use Rattle.asm_program.specs.Invariants.{holds}
 use Rattle.asm_board.specs.declared.board.Slot.{Slot}
 use Rattle.asm_board.specs.declared.entry.Entry.{Entry}
+use Rattle.asm_board.specs.declared.prepared.News.{News}
 use Rattle.asm_board.specs.declared.trail.TrailPair.{TrailPair}
 use Rattle.asm_board.specs.Meanings.{Meanings}
 use Rattle.asm_board.specs.Contents.{Contents, IsContent}
 use Rattle.asm_board.specs.Stepping.{after_start}
-use Rattle.asm_board.specs.Slots.{Models, News, slot_in, pairs_of, most_pairs, newest, trail_after, new_slot, new_slots}
+use Rattle.asm_board.specs.Slots.{Models, slot_in, pairs_of, most_pairs, newest, trail_after, new_slot, new_slots}
 use Rattle.asm_board.specs.Calls.{is_change}
 use Rattle.asm_board.specs.Changes.{Change, added_invariant, with_invariant, without_invariant, change}
 use Rattle.asm_board.specs.Boards.{slots_of_change, spoken_of, board_of}
@@ -48,7 +49,7 @@ one_less content name whole =
 stays_whole : (m : Meanings) → StaysSo m IsContent
 stays_whole m = record {
   starts = λ source program is. start_is program (m.initial program);
-  steps = λ models name tree pick step fired before. fired.yielded.whole;
+  steps = λ models tree pick leaf fired before. subst IsContent (sym fired.is) fired.yielded.whole;
   more = λ content inv source term whole is none.
       one_more content (added_invariant inv source term) whole (all_hold content.program content.state (added_invariant inv source term ∷ []) none).0;
   fewer = one_less;

@@ -12,7 +12,8 @@ use Rattle.asm_board.specs.declared.prepared.Prepared.{Prepared}
 use Rattle.asm_board.specs.Meanings.{Meanings}
 use Rattle.asm_board.specs.Refusals.{models_full, journal_full}
 use Rattle.asm_board.specs.Replies.{tail_of, reply_of}
-use Rattle.asm_board.specs.Calls.{is_change}
+use Rattle.asm_board.specs.Calls.{is_change, is_log}
+use Rattle.asm_board.specs.Logs.{log_of}
 use Rattle.asm_board.specs.Boards.{model_limit, empty_board, version_of, body_at, slots_at, weight_at, loads_at, versions_at, applied, board_of}
 
 -- ---- outcomes
@@ -62,15 +63,19 @@ module _ (m : Meanings) where
       outcome room board seat c (loads_at board c) (weight_at m board c)
       (body_at m board c) (tail_of (body_at m board c))
 
-  -- the answer at a board
+  -- the answer at a board, to a call that is no log
   abbrev pub answer_at : ℕ → Board → ℕ → Call → Answer
   answer_at room board seat c =
       if is_change c then answer_change room board seat c
       else without_entry board.front (body_at m board c)
 
-  -- The answer to a call after a journal. The journal goes on with its entry, if it has one.
+  -- The answer to a call after a journal. The journal goes on with its entry, if it has one. A read
+  -- that is to be answered after more entries is refused; else a log shows the entries for which it
+  -- asks, and any other call is answered at the journal's board.
   abbrev pub answer : ℕ → List Entry → ℕ → Call → Answer
-  answer room journal seat c = answer_at room (board_of m journal) seat c
+  answer room journal seat c =
+      if is_log c then without_entry (length journal) (log_of journal c)
+      else answer_at room (board_of m journal) seat c
 
   -- ---- legal journals
 
@@ -87,7 +92,8 @@ module _ (m : Meanings) where
 
   -- ---- prepared calls
 
-  -- what was prepared is what its call is at this board
+  -- What was prepared is what its call is at this board: a read that is to be answered after more
+  -- entries is refused there too. A log isn't prepared.
   pub record Stands (p : Prepared) (c : Call) (board : Board) : Type 0 where
     pub is_call : p.call ≡ c
     pub versions : p.versions ≡ versions_at board c

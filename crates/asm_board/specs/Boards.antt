@@ -1,5 +1,5 @@
 -- The board of a journal, and what a call is at a board.
-use Rattle.std.specs.Prelude.{ℕ, ◌+◌, Bool, false, ◌&&◌, List, [], fold, if◌then◌else◌, is_none, Ok, Err}
+use Rattle.std.specs.Prelude.{ℕ, ◌+◌, Bool, false, ◌&&◌, nat_lt, List, [], fold, if◌then◌else◌, is_none, Ok, Err}
 use Rattle.asm_portable.specs.declared.port.Port.{Port}
 use Rattle.asm_board.specs.declared.board.Board.{Board}
 use Rattle.asm_board.specs.declared.call.Call.{Call}
@@ -10,9 +10,9 @@ use Rattle.asm_board.specs.declared.entry.Entry.{Entry}
 use Rattle.asm_board.specs.declared.prepared.NameVersion.{NameVersion}
 use Rattle.asm_board.specs.declared.prepared.Changed.{Changed}
 use Rattle.asm_board.specs.Meanings.{Meanings}
-use Rattle.asm_board.specs.Refusals.{Tried}
+use Rattle.asm_board.specs.Refusals.{Tried, ahead}
 use Rattle.asm_board.specs.Slots.{Models, slot_in, version_in, only, versions_in, new_slots, changed}
-use Rattle.asm_board.specs.Calls.{footprint, is_change, entry_weight, capped}
+use Rattle.asm_board.specs.Calls.{footprint, is_change, since_of, entry_weight, capped}
 use Rattle.asm_board.specs.Changes.{Change, change, is_right_name}
 use Rattle.asm_board.specs.Reads.{read}
 
@@ -33,6 +33,10 @@ body_of_change (Err why) = bodies.No why
 abbrev pub body_of_read : Tried Port → Body
 body_of_read (Ok tree) = bodies.Ok tree
 body_of_read (Err why) = bodies.No why
+
+-- this body, unless the call is to be answered after more entries than these
+abbrev pub unless_ahead : ℕ → Call → Body → Body
+unless_ahead front c body = if nat_lt front (since_of c) then bodies.No (ahead front) else body
 
 abbrev pub slots_of_change : Models → Change → List Changed
 slots_of_change models (Ok accepted) = new_slots models accepted.news
@@ -76,11 +80,13 @@ module _ (m : Meanings) where
   abbrev pub change_at : Board → Call → Change
   change_at board c = change m (spoken_of board c) c
 
+  abbrev pub read_at : Board → Call → Body
+  read_at board c = unless_ahead board.front c (body_of_read (read m board.slots c))
+
   -- what a call gives at a board, were there room
   abbrev pub body_at : Board → Call → Body
   body_at board c =
-      if is_change c then body_of_change (change_at board c)
-      else body_of_read (read m board.slots c)
+      if is_change c then body_of_change (change_at board c) else read_at board c
 
   abbrev pub slots_at : Board → Call → List Changed
   slots_at board c =

@@ -1,9 +1,10 @@
 -- What each change comes to at the models of its footprint: its refusals in their order, or its Ok
 -- tree and the new contents.
-use Rattle.std.specs.Prelude.{ℕ, ◌+◌, ◌^◌, min, Bool, true, false, not, ◌&&◌, ◌||◌, ◌==◌, nat_lt, nat_le, length, List, [], ◌∷◌, ◌++◌, filter, find, sum_by, Option, Some, None, is_none, option_map, codes, Result, Ok, Err}
+use Rattle.std.specs.Prelude.{ℕ, ◌+◌, ◌^◌, min, Bool, true, false, not, ◌&&◌, ◌||◌, ◌==◌, nat_lt, nat_le, length, List, [], ◌∷◌, ◌++◌, filter, find, sum_by, Option, Some, None, is_none, option_map, map, codes, Result, Ok, Err}
 use Rattle.std.specs.List.{list_all, list_any, last_or}
 use Rattle.std.specs.Str.{bytes_eq}
 use Rattle.std.specs.Fmt.{decimal}
+use Rattle.std.specs.Option.{option_map_or}
 use Rattle.asm_value.specs.declared.domain.Domain.TheVariants.{Truth}
 use Rattle.asm_value.specs.declared.location.Update.{Update}
 use Rattle.asm_program.specs.declared.program.Inv.{Inv}
@@ -12,12 +13,20 @@ use Rattle.asm_program.specs.declared.bad_text.BadText.{BadText}
 use Rattle.asm_program.specs.declared.checked.CheckedTerm.{CheckedTerm}
 use Rattle.asm_program.specs.Counts.{term_work}
 use Rattle.asm_program.specs.Invariants.{first_broken}
+use Rattle.asm_formula.specs.declared.formula.Formula.{Formula}
+use Rattle.asm_formula.specs.declared.formula.FormulaRefusal.{FormulaRefusal}
+use Rattle.asm_formula.specs.Formulas.{names}
+use Rattle.asm_formula.specs.Reading.{formula_of}
+use Rattle.asm_compose.specs.Offers.{Offer}
+use Rattle.asm_compose.specs.Runs.{Leaf, Steps, Refuses, Ran, Done, Stopped, JoinClash, run}
 use Rattle.asm_portable.specs.declared.port.Port.{Port}
 use Rattle.asm_portable.specs.Ports.{text, fields_of}
 use Rattle.asm_board.specs.declared.call.Call.{Call}
 use Rattle.asm_board.specs.declared.call.Call.TheVariants as call
 use Rattle.asm_board.specs.declared.board.Slot.{Slot}
 use Rattle.asm_board.specs.declared.trail.TrailPair.{TrailPair}
+use Rattle.asm_board.specs.declared.prepared.Accepted.{Accepted}
+use Rattle.asm_board.specs.declared.prepared.News.{News}
 use Rattle.asm_board.specs.declared.refusal.Refusal.{Refusal}
 use Rattle.asm_board.specs.declared.refusal.RefusalName.{RefusalName}
 use Rattle.asm_board.specs.declared.refusal.RefusalName.TheVariants as no
@@ -26,15 +35,10 @@ use Rattle.asm_board.specs.declared.stepped.Stepped.{Stepped}
 use Rattle.asm_board.specs.declared.stepped.Stepped.TheVariants as stepped
 use Rattle.asm_board.specs.Contents.{Contents}
 use Rattle.asm_board.specs.Stepping.{start, step}
-use Rattle.asm_board.specs.Inputs.{given}
-use Rattle.asm_board.specs.Refusals.{Tried, after, needs, is_there, Whose, of_model, bad_name, name_taken, bad_text, unknown_model, state_full, broken, inv_taken, invs_full, unknown_inv, not_in_trail}
-use Rattle.asm_board.specs.Slots.{Models, slot_in, version_in, pairs_of, News}
-use Rattle.asm_board.specs.Shown.{line_at, column_at, out_shown, fault_shown, clash_shown}
-
--- an accepted change: its Ok tree, and the new contents
-pub record Accepted : Type 0 where
-  pub ok : Port
-  pub news : List News
+use Rattle.asm_board.specs.Inputs.{given_for, all_given, inputs_of}
+use Rattle.asm_board.specs.Refusals.{Tried, after, needs, is_there, Whose, of_model, bad_name, name_taken, bad_text, bad_formula, unknown_model, join_clash, state_full, broken, inv_taken, invs_full, unknown_inv, not_in_trail}
+use Rattle.asm_board.specs.Slots.{Models, slot_in, only, version_in, pairs_of}
+use Rattle.asm_board.specs.Shown.{line_at, column_at, steps_shown, offer_of, fault_shown, clash_shown}
 
 abbrev pub Change : Type 0
 Change = Tried Accepted
@@ -79,6 +83,22 @@ is_right_name name = is_identifier name && nat_le (length name) most_name_bytes
 abbrev pub unless_bad : {A : Type 0} → Result A BadText → Tried A
 unless_bad (Ok x) = Ok x
 unless_bad (Err bad) = Err (bad_text bad)
+
+-- ---- formulas
+
+abbrev pub unless_unread : {A : Type 0} → Result A FormulaRefusal → Tried A
+unless_unread (Ok x) = Ok x
+unless_unread (Err why) = Err (bad_formula why)
+
+-- what the models of a formula leave, or the first refusal
+abbrev pub leaves_of : Ran Refusal Contents → Tried (List (List ℕ × Contents))
+leaves_of (Done gives leaves) = Ok leaves
+leaves_of (Stopped why) = Err why
+leaves_of (JoinClash first second) = Err (join_clash first second)
+
+-- each model's new content
+abbrev pub news_of : List (List ℕ × Contents) → List News
+news_of leaves = map (λ l. record { name = l.0; content = Some l.1 }) leaves
 
 -- ---- contents
 
@@ -160,6 +180,18 @@ abbrev pub content_at : Slot → ℕ → Option Contents
 content_at slot version =
     option_map (λ p. p.content) (find (λ p. p.version == version) (pairs_of slot))
 
+-- the formula of a text
+abbrev pub formula_in : List ℕ → Tried Formula
+formula_in source = unless_unread (formula_of source)
+
+-- what the out functions of a model held before the step
+abbrev pub held : Models → List ℕ → Offer
+held models name = option_map_or (λ slot. offer_of slot.content) (slot_in models name) []
+
+abbrev pub leaf_of : Tried Contents → Leaf Refusal Contents
+leaf_of (Ok content) = Steps (offer_of content) content
+leaf_of (Err why) = Refuses why
+
 module _ (m : Meanings) where
   -- the program of a text
   abbrev pub program_in : List ℕ → Tried Program
@@ -202,13 +234,35 @@ module _ (m : Meanings) where
 
   -- ---- steps
 
-  -- one step of a model, with what the environment gives
-  abbrev pub step_model : Models → List ℕ → Port → Option ℕ → Change
-  step_model models name inputs pick =
+  abbrev pub all_found : Models → List (List ℕ) → Tried (Unit {0})
+  all_found models [] = Ok tt
+  all_found models (name ∷ names) = after (found models name) (λ _. all_found models names)
+
+  -- one step of a model, with what the environment gives and what it is offered
+  abbrev pub leaf_stepped : Models → Port → Option ℕ → List ℕ → Offer → Tried Contents
+  leaf_stepped models inputs pick name offer =
       after (found models name) (λ slot.
-      after (given name slot.content (fields_of inputs)) (λ updates.
-      after (stepped_from (of_model name) pick slot.content updates) (λ content.
-      accepted (out_shown name content) (becomes name content))))
+      after (inputs_of slot.content name (given_for (fields_of inputs) name) offer) (λ updates.
+      stepped_from (of_model name) pick slot.content updates))
+
+  abbrev pub leaf : Models → Port → Option ℕ → List ℕ → Offer → Leaf Refusal Contents
+  leaf models inputs pick name offer = leaf_of (leaf_stepped models inputs pick name offer)
+
+  -- the run of a formula over these models
+  abbrev pub ran : Models → Port → Option ℕ → Formula → Ran Refusal Contents
+  ran models inputs pick formula = run (held models) (leaf models inputs pick) formula
+
+  -- each model of the formula steps, or none of them
+  abbrev pub step_formula : Models → Port → Option ℕ → Formula → Change
+  step_formula models inputs pick formula = let stepping = only models (names formula) in
+      after (all_found stepping (names formula)) (λ _.
+      after (all_given stepping (fields_of inputs)) (λ _.
+      after (leaves_of (ran stepping inputs pick formula)) (λ leaves.
+      accepted (steps_shown leaves) (news_of leaves))))
+
+  abbrev pub step_models : Models → List ℕ → Port → Option ℕ → Change
+  step_models models source inputs pick =
+      after (formula_in source) (λ formula. step_formula models inputs pick formula)
 
   -- ---- invariants
 
@@ -259,7 +313,7 @@ module _ (m : Meanings) where
   abbrev pub change : Models → Call → Change
   change models (call.Load name source) = load models name source
   change models (call.Unload name) = unload models name
-  change models (call.Step formula inputs pick) = step_model models formula inputs pick
+  change models (call.Step formula inputs pick) = step_models models formula inputs pick
   change models (call.AddInvariant name inv term) = add_invariant models name inv term
   change models (call.DropInvariant name inv) = drop_invariant models name inv
   change models (call.Rollback name to) = rollback models name to

@@ -6,12 +6,14 @@ pub mod Refusals
 pub mod Coming
 pub mod Replies
 pub mod Calls
+pub mod CallPorts
 pub mod Slots
 pub mod Shown
 pub mod Inputs
 pub mod Changes
 pub mod Reads
 pub mod Boards
+pub mod Logs
 pub mod Answers
 pub mod Ends
 pub mod Numbers

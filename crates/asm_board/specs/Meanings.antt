@@ -14,6 +14,8 @@ pub record Meanings : Type 0 where
   pub program_of : List ℕ → Result Program BadText
   -- the term of a text over a program, of a domain where one is wanted, or what is reported of it
   pub term_of : Program → Option Domain → List ℕ → Result CheckedTerm BadText
+  -- the canonical text of the model of a text
+  pub canonical : List ℕ → List ℕ
   -- the initial state of a program, or the first fault on the way to it
   pub initial : Program → Started
   -- the updates that the main rule yields in a state for a pick, or its first fault

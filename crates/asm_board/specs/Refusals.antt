@@ -1,5 +1,8 @@
 -- Refusals: what each says, and how the first of several is the outcome.
 use Rattle.std.specs.Prelude.{ℕ, List, [], ◌∷◌, ◌++◌, Bool, Option, Some, None, Result, Ok, Err, codes, if◌then◌else◌}
+use Rattle.asm_formula.specs.declared.formula.FormulaRefusal.{FormulaRefusal}
+use Rattle.asm_formula.specs.declared.formula.FormulaRefusal.TheVariants as unread
+use Rattle.asm_compose.specs.declared.given.Given.{Given}
 use Rattle.asm_program.specs.declared.bad_text.BadText.{BadText}
 use Rattle.asm_portable.specs.declared.port.Port.{Port}
 use Rattle.asm_portable.specs.declared.port.Field.{Field}
@@ -15,6 +18,7 @@ name_text no.Unbuilt = codes "Unbuilt"
 name_text no.LineTooLong = codes "LineTooLong"
 name_text no.BadJson = codes "BadJson"
 name_text no.BadRequest = codes "BadRequest"
+name_text no.Ahead = codes "Ahead"
 name_text no.BadName = codes "BadName"
 name_text no.NameTaken = codes "NameTaken"
 name_text no.ModelsFull = codes "ModelsFull"
@@ -23,9 +27,12 @@ name_text no.UnknownModel = codes "UnknownModel"
 name_text no.InitFault = codes "InitFault"
 name_text no.StateFull = codes "StateFull"
 name_text no.Broken = codes "Broken"
+name_text no.BadFormula = codes "BadFormula"
 name_text no.BadInput = codes "BadInput"
+name_text no.WireUnfit = codes "WireUnfit"
 name_text no.Fault = codes "Fault"
 name_text no.Clash = codes "Clash"
+name_text no.JoinClash = codes "JoinClash"
 name_text no.InvTaken = codes "InvTaken"
 name_text no.UnknownInv = codes "UnknownInv"
 name_text no.InvsFull = codes "InvsFull"
@@ -58,6 +65,10 @@ bad_json = refusal no.BadJson []
 abbrev pub bad_request : List ℕ → Refusal
 bad_request key = refusal no.BadRequest (field (codes "field") (text key) ∷ [])
 
+-- a read is to be answered after more entries than there are
+abbrev pub ahead : ℕ → Refusal
+ahead have = refusal no.Ahead (field (codes "have") (number have) ∷ [])
+
 -- the name is no identifier of 1 to 64 bytes
 abbrev pub bad_name : Refusal
 bad_name = refusal no.BadName []
@@ -82,6 +93,26 @@ bad_text bad = refusal no.BadText
     ∷ field (codes "line") (number bad.line)
     ∷ field (codes "more") (text bad.more) ∷ [])
 
+-- why a text is no formula, and the byte at which it is none, 0 where that is of the whole; want of
+-- memory says nothing of a text
+abbrev pub formula_kind : FormulaRefusal → List ℕ
+formula_kind (unread.Syntax at) = codes "Syntax"
+formula_kind unread.TooMany = codes "TooMany"
+formula_kind (unread.Repeated name) = codes "Repeated"
+formula_kind unread.NoMemory = []
+
+abbrev pub formula_place : FormulaRefusal → ℕ
+formula_place (unread.Syntax at) = at
+formula_place unread.TooMany = 0
+formula_place (unread.Repeated name) = 0
+formula_place unread.NoMemory = 0
+
+-- the text is no formula
+abbrev pub bad_formula : FormulaRefusal → Refusal
+bad_formula why = refusal no.BadFormula
+    (field (codes "kind") (text (formula_kind why))
+    ∷ field (codes "place") (number (formula_place why)) ∷ [])
+
 -- no such model exists
 abbrev pub unknown_model : List ℕ → Refusal
 unknown_model name = refusal no.UnknownModel (model_is name ∷ [])
@@ -105,6 +136,11 @@ fault_at name whose column kind line = refusal name
     ∷ field (codes "line") (number line)
     ∷ model_is whose.name ∷ whose.step)
 
+-- the evaluation of a term that was asked for has a fault of this kind
+abbrev pub value_fault : (kind name : List ℕ) → Refusal
+value_fault kind name =
+    refusal no.Fault (field (codes "kind") (text kind) ∷ model_is name ∷ [])
+
 -- the state weighs this, which is too much
 abbrev pub state_full : Whose → ℕ → Refusal
 state_full whose weight = refusal no.StateFull
@@ -120,6 +156,18 @@ broken whose inv =
 abbrev pub bad_input : List ℕ → List ℕ → Refusal
 bad_input function name =
     refusal no.BadInput (field (codes "function") (text function) ∷ model_is name ∷ [])
+
+-- what other models offer for a function of a model doesn't fit
+abbrev pub wire_unfit : List ℕ → List ℕ → Refusal
+wire_unfit function name =
+    refusal no.WireUnfit (field (codes "function") (text function) ∷ model_is name ∷ [])
+
+-- two models give one location these two values
+abbrev pub join_clash : Given → Given → Refusal
+join_clash first second = refusal no.JoinClash
+    (field (codes "args") (list first.args)
+    ∷ field (codes "function") (text first.function)
+    ∷ field (codes "values") (list (first.value ∷ second.value ∷ [])) ∷ [])
 
 abbrev pub invariant_of : RefusalName → List ℕ → List ℕ → Refusal
 invariant_of name inv model =

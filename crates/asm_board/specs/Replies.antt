@@ -2,7 +2,8 @@
 use Rattle.std.specs.Prelude.{ℕ, List, [], ◌∷◌, ◌++◌, drop, codes}
 use Rattle.std.specs.Fmt.{decimal}
 use Rattle.asm_portable.specs.declared.port.Field.{Field}
-use Rattle.asm_portable.specs.Ports.{text, field, fields}
+use Rattle.asm_portable.specs.declared.port.Port.{Port}
+use Rattle.asm_portable.specs.Ports.{text, number, field, fields}
 use Rattle.asm_portable.specs.Json.{json_text}
 use Rattle.asm_board.specs.declared.reply.Body.{Body}
 use Rattle.asm_board.specs.declared.reply.Body.TheVariants as bodies
@@ -19,6 +20,10 @@ refusal_fields refusal =
 abbrev pub body_fields : Body → List Field
 body_fields (bodies.Ok tree) = field (codes "ok") tree ∷ []
 body_fields (bodies.No refusal) = refusal_fields refusal
+
+-- the reply as a tree, with its number
+abbrev pub reply_port : ℕ → Body → Port
+reply_port at body = fields (field (codes "at") (number at) ∷ body_fields body)
 
 -- their JSON text after its first brace
 abbrev pub tail_of : Body → List ℕ

@@ -1,5 +1,5 @@
 -- What a client is shown of a model.
-use Rattle.std.specs.Prelude.{ℕ, ◌+◌, ◌≡◌, ◌==◌, Bool, true, not, Option, Some, None, List, [], ◌∷◌, length, map, take, count_by, slice_get, codes, if◌then◌else◌}
+use Rattle.std.specs.Prelude.{ℕ, ◌+◌, ◌≡◌, ◌==◌, Bool, true, not, Option, Some, None, List, [], ◌∷◌, ◌++◌, length, map, take, count_by, slice_get, codes, if◌then◌else◌}
 use Rattle.std.specs.Option.{option_map_or}
 use Rattle.std.specs.List.{suffix_len}
 use Rattle.asm_value.specs.declared.domain.Domain.{Domain as Domains}
@@ -23,6 +23,8 @@ use Rattle.asm_portable.specs.declared.port.Port.{Port}
 use Rattle.asm_portable.specs.declared.port.Field.{Field}
 use Rattle.asm_portable.specs.Ports.{text, number, list, field, fields, ascending}
 use Rattle.asm_portable.specs.Values.{port_of}
+use Rattle.asm_compose.specs.declared.given.Given.{Given}
+use Rattle.asm_compose.specs.Offers.{Offer, gathered}
 use Rattle.asm_board.specs.declared.board.Slot.{Slot}
 use Rattle.asm_board.specs.declared.board.NamedSlot.{NamedSlot}
 use Rattle.asm_board.specs.declared.refusal.Refusal.{Refusal}
@@ -142,10 +144,36 @@ models_shown models = list (map model_shown models)
 abbrev pub outs_shown : Contents → Port
 outs_shown content = fields (listed_of is_out content.program content.state)
 
--- a step tells the out functions of its model
-abbrev pub out_shown : List ℕ → Contents → Port
-out_shown name content =
-    fields (field (codes "out") (fields (field name (outs_shown content) ∷ [])) ∷ [])
+-- a step tells the out functions of its models
+abbrev pub steps_shown : List (List ℕ × Contents) → Port
+steps_shown leaves = fields (field (codes "out")
+    (fields (ascending (map (λ l. field l.0 (outs_shown l.1)) leaves))) ∷ [])
+
+-- ---- offers
+
+-- a location of a function with its value, as other models are offered it
+abbrev pub offered_entry : List DomainInfo → List ℕ → Location × Value → Given
+offered_entry domains function e = record {
+  function = function;
+  args = map (port_of domains) e.0.args;
+  value = port_of domains e.1;
+}
+
+-- what a function offers, where it is an out function
+abbrev pub function_offers : List DomainInfo → StateMap → ℕ → FunctionInfo → List Given
+function_offers domains state f info =
+    if is_out info.kind then map (offered_entry domains info.name) (entries_of f state) else []
+
+-- the out functions in text order, of which this is the number of the first
+abbrev pub offers_from : List DomainInfo → StateMap → ℕ → List FunctionInfo → List Given
+offers_from domains state f [] = []
+offers_from domains state f (info ∷ infos) =
+    function_offers domains state f info ++ offers_from domains state (f + 1) infos
+
+-- what a content offers: its defined out locations
+abbrev pub offer_of : Contents → Offer
+offer_of content =
+    gathered (offers_from content.program.domains content.state 0 content.program.functions)
 
 -- ---- faults and clashes
 

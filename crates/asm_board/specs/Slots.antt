@@ -9,6 +9,7 @@ use Rattle.asm_board.specs.declared.trail.Trail.{Trail}
 use Rattle.asm_board.specs.declared.trail.TrailPair.{TrailPair}
 use Rattle.asm_board.specs.declared.prepared.NameVersion.{NameVersion}
 use Rattle.asm_board.specs.declared.prepared.Changed.{Changed}
+use Rattle.asm_board.specs.declared.prepared.News.{News}
 use Rattle.asm_board.specs.Contents.{Contents}
 
 -- some models, each once
@@ -75,11 +76,6 @@ trail_after None = no_trail
 trail_after (Some slot) = remembered slot.trail slot.version slot.content
 
 -- ---- changes of models
-
--- a model's new content, none where the model goes
-pub record News : Type 0 where
-  pub name : List ℕ
-  pub content : Option Contents
 
 -- a new slot in place of an old one, before the version of its entry is known
 abbrev pub new_slot : Option Slot → Contents → Slot

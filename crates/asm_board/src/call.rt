@@ -9,7 +9,7 @@ use asm_value::Text;
 use std::alloc::{AllocError, Global};
 
 /// A request, with its fields in their order. A change adds an entry to the journal where it is
-/// accepted; a read shows what there is.
+/// accepted; a read shows what there is, after so many entries at least as its `since` says.
 #[derive(Debug, Drop)]
 pub enum Call {
     /// A read: some steps of a text that isn't kept.
@@ -17,6 +17,7 @@ pub enum Call {
         text: Text,
         steps: u64,
         pick: Option<u64>,
+        since: u64,
     },
     /// A change: a new model of a text, in its initial state.
     Load {
@@ -27,8 +28,8 @@ pub enum Call {
     Unload {
         name: Text,
     },
-    /// A change: one step of the model that the formula names. The inputs are fields by model, each
-    /// with fields by function.
+    /// A change: one step of each model of the formula, or of none. The inputs are fields by model,
+    /// each with fields by function.
     Step {
         formula: Text,
         inputs: Port,
@@ -37,9 +38,29 @@ pub enum Call {
     /// A read: what a model is.
     State {
         name: Text,
+        since: u64,
+    },
+    /// A read: what the term of a text gives in a model's state.
+    Value {
+        name: Text,
+        term: Text,
+        since: u64,
+    },
+    /// A read: a model's text in its canonical form.
+    ShowText {
+        name: Text,
+        since: u64,
     },
     /// A read: the models with their versions.
-    Models,
+    Models {
+        since: u64,
+    },
+    /// A read: so many entries of the journal from this number on.
+    Log {
+        from: u64,
+        count: u64,
+        since: u64,
+    },
     /// A change: one more invariant of a model, the Boolean term of a text.
     AddInvariant {
         name: Text,
@@ -77,6 +98,14 @@ fn picked(pick: Option<u64>) -> u64
         Some(_) => 1,
         None => 0,
     }
+}
+
+/// What the least number of entries of a read weighs: 1 where it isn't 0.
+fn sinced(since: u64) -> u64
+    ensures weight { result ≡ sum_by whole_weight (spec.since_field since) }
+    ensures few { result ≤ 1 }
+{
+    if since == 0 { 0 } else { 1 }
 }
 
 /// Copies of two texts.
@@ -128,7 +157,53 @@ impl Call {
             | Call::AddInvariant { .. }
             | Call::DropInvariant { .. }
             | Call::Rollback { .. } => true,
-            Call::Run { .. } | Call::State { .. } | Call::Models => false,
+            Call::Run { .. }
+            | Call::State { .. }
+            | Call::Value { .. }
+            | Call::ShowText { .. }
+            | Call::Models { .. }
+            | Call::Log { .. } => false,
+        }
+    }
+
+    /// Whether it asks for entries of the journal. Takes no memory.
+    pub fn is_log(&self) -> bool
+        ensures { result ≡ spec.is_log self.now }
+    {
+        match self {
+            Call::Log { .. } => true,
+            Call::Run { .. }
+            | Call::Load { .. }
+            | Call::Unload { .. }
+            | Call::Step { .. }
+            | Call::State { .. }
+            | Call::Value { .. }
+            | Call::ShowText { .. }
+            | Call::Models { .. }
+            | Call::AddInvariant { .. }
+            | Call::DropInvariant { .. }
+            | Call::Rollback { .. } => false,
+        }
+    }
+
+    /// The number of entries after which a read is to be answered at least, 0 of a change. Takes no
+    /// memory.
+    pub fn since(&self) -> u64
+        ensures { result ≡ spec.since_of self.now }
+    {
+        match self {
+            Call::Run { since, .. }
+            | Call::State { since, .. }
+            | Call::Value { since, .. }
+            | Call::ShowText { since, .. }
+            | Call::Models { since }
+            | Call::Log { since, .. } => *since,
+            Call::Load { .. }
+            | Call::Unload { .. }
+            | Call::Step { .. }
+            | Call::AddInvariant { .. }
+            | Call::DropInvariant { .. }
+            | Call::Rollback { .. } => 0,
         }
     }
 
@@ -138,12 +213,26 @@ impl Call {
         ensures { result ≡ spec.capped (spec.call_weight self.now) }
     {
         match self {
-            Call::Run { text, pick, .. } => text.weight().saturating_add(2 + picked(*pick)),
+            Call::Run {
+                text,
+                pick,
+                since,
+                ..
+            } => text
+                .weight()
+                .saturating_add(2 + picked(*pick) + sinced(*since)),
             Call::Load { name, text } => name
                 .weight()
                 .saturating_add(text.weight())
                 .saturating_add(1),
-            Call::Unload { name } | Call::State { name } => name.weight().saturating_add(1),
+            Call::Unload { name } => name.weight().saturating_add(1),
+            Call::State { name, since } | Call::ShowText { name, since } => {
+                name.weight().saturating_add(1 + sinced(*since))
+            }
+            Call::Value { name, term, since } => name
+                .weight()
+                .saturating_add(term.weight())
+                .saturating_add(1 + sinced(*since)),
             Call::Step {
                 formula,
                 inputs,
@@ -152,7 +241,8 @@ impl Call {
                 .weight()
                 .saturating_add(inputs_weight(inputs))
                 .saturating_add(1 + picked(*pick)),
-            Call::Models => 1,
+            Call::Models { since } => 1 + sinced(*since),
+            Call::Log { since, .. } => 3 + sinced(*since),
             Call::AddInvariant { name, inv, term } => name
                 .weight()
                 .saturating_add(inv.weight())
@@ -171,10 +261,16 @@ impl Call {
         ensures { IfOk result (λ call. call ≡ self.now) }
     {
         match self {
-            Call::Run { text, steps, pick } => Ok(Call::Run {
+            Call::Run {
+                text,
+                steps,
+                pick,
+                since,
+            } => Ok(Call::Run {
                 text: text.copy(alloc)?,
                 steps: *steps,
                 pick: *pick,
+                since: *since,
             }),
             Call::Load { name, text } => {
                 let (name, text) = both(alloc, name, text)?;
@@ -188,10 +284,28 @@ impl Call {
                 inputs,
                 pick,
             } => copy_step(alloc, formula, inputs, *pick),
-            Call::State { name } => Ok(Call::State {
+            Call::State { name, since } => Ok(Call::State {
                 name: name.copy(alloc)?,
+                since: *since,
             }),
-            Call::Models => Ok(Call::Models),
+            Call::Value { name, term, since } => {
+                let (name, term) = both(alloc, name, term)?;
+                Ok(Call::Value {
+                    name,
+                    term,
+                    since: *since,
+                })
+            }
+            Call::ShowText { name, since } => Ok(Call::ShowText {
+                name: name.copy(alloc)?,
+                since: *since,
+            }),
+            Call::Models { since } => Ok(Call::Models { since: *since }),
+            Call::Log { from, count, since } => Ok(Call::Log {
+                from: *from,
+                count: *count,
+                since: *since,
+            }),
             Call::AddInvariant { name, inv, term } => copy_invariant(alloc, name, inv, term),
             Call::DropInvariant { name, inv } => {
                 let (name, inv) = both(alloc, name, inv)?;

@@ -1,5 +1,5 @@
 //! Laws of journals, steps and models, over the definitions alone: each function does nothing.
-ghost use Rattle.std.specs.Prelude.{ℕ, ◌≡◌, ◌≢◌, ◌≤◌, ◌+◌, ◌↔◌, List, ◌++◌, map, length, Option, option_to_list, Some, None, Ok, Err, All, IsSome};
+ghost use Rattle.std.specs.Prelude.{ℕ, ◌≡◌, ◌≢◌, ◌≤◌, ◌<◌, ◌+◌, ◌↔◌, true, false, List, ◌++◌, map, filter, length, Option, option_to_list, Some, None, Ok, Err, All, IsSome};
 ghost use Rattle.std.specs.List.{Contains};
 ghost use Rattle.asm_value.specs.declared.value.Value.{Value};
 ghost use Rattle.asm_value.specs.declared.location.Location.{Location};
@@ -12,24 +12,28 @@ ghost use Rattle.asm_program.specs.Invariants.{first_broken, AllHold};
 ghost use Rattle.asm_portable.specs.declared.port.Port.{Port};
 ghost use Rattle.asm_portable.specs.declared.port.Field.{Field};
 ghost use Rattle.asm_portable.specs.Ports.{AscendByKey};
+ghost use Rattle.asm_board.specs.declared.prepared.Accepted.{Accepted};
 ghost use Rattle.asm_board.specs.declared.board.Board.{Board};
 ghost use Rattle.asm_board.specs.declared.board.Slot.{Slot};
 ghost use Rattle.asm_board.specs.declared.call.Call.{Call};
-ghost use Rattle.asm_board.specs.declared.call.Call.TheVariants.{Step, Models as ListModels};
+ghost use Rattle.asm_board.specs.declared.call.Call.TheVariants.{Step, Models as ListModels, Log};
 ghost use Rattle.asm_board.specs.declared.entry.Entry.{Entry};
 ghost use Rattle.asm_board.specs.declared.refusal.Refusal.{Refusal};
 ghost use Rattle.asm_board.specs.declared.reply.Body.TheVariants as bodies;
 ghost use Rattle.asm_board.specs.Meanings.{Meanings};
 ghost use Rattle.asm_board.specs.Stepping.{first_clash};
-ghost use Rattle.asm_board.specs.Calls.{footprint};
+ghost use Rattle.asm_board.specs.Refusals.{ahead};
+ghost use Rattle.asm_board.specs.Calls.{is_change, is_log, since_of, footprint};
+ghost use Rattle.asm_board.specs.Reads.{read};
+ghost use Rattle.asm_board.specs.Logs.{asked_of, log_shown, is_numbered};
 ghost use Rattle.asm_board.specs.Slots.{Models, AscendByName, slot_in};
-ghost use Rattle.asm_board.specs.Changes.{Accepted, change};
-ghost use Rattle.asm_board.specs.Boards.{applied, board_of, change_at};
-ghost use Rattle.asm_board.specs.Answers.{Legal, answer, answer_at};
+ghost use Rattle.asm_board.specs.Changes.{change};
+ghost use Rattle.asm_board.specs.Boards.{applied, body_of_read, board_of, change_at};
+ghost use Rattle.asm_board.specs.Answers.{Legal, without_entry, answer, answer_at};
 ghost use Rattle.asm_board.specs.Shown.{functions_listed, models_shown, IsDefinedFunction, NamesDiffer};
 ghost use Rattle.asm_board.specs.Numbers.{TellsItsNumber};
 ghost use Rattle.asm_board.specs.Journals.{IsAcceptedChange, PreparedStillStands, entries_weight};
-ghost use Rattle.asm_board.specs.Steps.{FiresItsSet, StepsAlone};
+ghost use Rattle.asm_board.specs.Steps.{FireTheirSets, StepTogether};
 ghost use Rattle.asm_board.specs.Sources.{EachKeepsSources};
 ghost use Rattle.asm_board.specs.Trails.{EachMeetsItsInvariants, EachHasFewPairs, Follows, Remembers, Begins};
 
@@ -83,6 +87,36 @@ pub fn a_journal_weighs_what_its_entries_do(room: u64)
     let _ = room;
 }
 
+/// A read that is to be answered after more entries than there are is `Ahead`, and tells how many
+/// there are. Any other shows what it asks for: a log the entries of the journal for which it asks,
+/// and another what it reads of the models.
+pub fn a_read_is_ahead_or_shows_what_it_asks_for(room: u64)
+    ensures ahead { (m : Meanings) (journal : List Entry) (seat : ℕ) (call : Call) →
+        is_change call ≡ false → length journal < since_of call →
+        answer m room journal seat call
+        ≡ without_entry (length journal) (bodies.No (ahead (length journal))) }
+    ensures log { (m : Meanings) (journal : List Entry) (seat : ℕ) (call : Call) →
+        is_log call ≡ true → since_of call ≤ length journal →
+        answer m room journal seat call
+        ≡ without_entry (length journal) (bodies.Ok (log_shown (asked_of call journal))) }
+    ensures shown { (m : Meanings) (journal : List Entry) (seat : ℕ) (call : Call) →
+        is_change call ≡ false → is_log call ≡ false → since_of call ≤ length journal →
+        answer m room journal seat call
+        ≡ without_entry (length journal) (body_of_read (read m (board_of m journal).slots call)) }
+{
+    let _ = room;
+}
+
+/// The entries of a legal journal for which a log asks are those of the numbers that it names, in
+/// their order.
+pub fn a_log_asks_for_the_entries_of_its_numbers(room: u64)
+    ensures { (m : Meanings) (journal : List Entry) (from count since : ℕ) →
+        Legal m room journal →
+        asked_of (Log from count since) journal ≡ filter (is_numbered from count) journal }
+{
+    let _ = room;
+}
+
 /// A prepared change whose versions are still the same stands at the later board too, and is
 /// settled as the one-thread server answers.
 pub fn still_stands(room: u64)
@@ -102,12 +136,14 @@ pub fn a_change_leaves_other_models_as_they_were()
 {}
 
 /// The models that a journal leaves ascend by name, each once, and the call that asks for the
-/// models is answered by them in that order, each with its version.
+/// models is answered by them in that order, each with its version, unless it is to be answered
+/// after more entries.
 pub fn models_ascend_by_name(room: u64)
     ensures ascend { (m : Meanings) (journal : List Entry) →
         AscendByName (board_of m journal).slots }
-    ensures shown { (m : Meanings) (journal : List Entry) (seat : ℕ) →
-        (answer m room journal seat ListModels).reply.body
+    ensures shown { (m : Meanings) (journal : List Entry) (seat since : ℕ) →
+        since ≤ length journal →
+        (answer m room journal seat (ListModels since)).reply.body
         ≡ bodies.Ok (models_shown (board_of m journal).slots) }
 {
     let _ = room;
@@ -171,12 +207,12 @@ pub fn a_change_remembers_what_was_before()
 
 // ---- steps
 
-/// A step that is accepted fires the consistent set that its model's main rule yields for the pick
-/// with the inputs, into a state that is light and meets the model's invariants.
-pub fn an_accepted_step_fires_a_consistent_set()
-    ensures { (m : Meanings) (models : Models) (name : List ℕ) (inputs : Port) (pick : Option ℕ)
-        (step : Accepted) → change m models (Step name inputs pick) ≡ Ok step
-        → FiresItsSet m models name inputs pick step }
+/// In a step that is accepted each model of the formula fires the consistent set that its main rule
+/// yields for the pick with its inputs, into a state that is light and meets the model's invariants.
+pub fn an_accepted_step_fires_consistent_sets()
+    ensures { (m : Meanings) (models : Models) (formula : List ℕ) (inputs : Port)
+        (pick : Option ℕ) (step : Accepted) → change m models (Step formula inputs pick) ≡ Ok step
+        → FireTheirSets m models formula inputs pick step }
 {}
 
 /// A change that is refused makes no entry, so the board stays as it is.
@@ -187,13 +223,18 @@ pub fn a_refused_change_makes_no_entry(room: u64)
     let _ = room;
 }
 
-/// The entry of a step leaves its model with a consistent set fired, and what it was before as its
-/// newest pair, and each other model as it was.
-pub fn a_step_changes_its_model_alone(room: u64)
-    ensures { (m : Meanings) (board : Board) (seat : ℕ) (name : List ℕ) (inputs : Port)
+/// All or none: the entry of a step leaves each model of the formula with a consistent set fired, at
+/// one version, and what it was before as its newest pair, and each other model as it was. A step
+/// that is refused makes no entry, so it changes none.
+pub fn all_models_of_a_formula_step_or_none(room: u64)
+    ensures all { (m : Meanings) (board : Board) (seat : ℕ) (formula : List ℕ) (inputs : Port)
         (pick : Option ℕ) (entry : Entry)
-        → (answer_at m room board seat (Step name inputs pick)).entry ≡ Some entry
-        → StepsAlone m board name inputs pick entry }
+        → (answer_at m room board seat (Step formula inputs pick)).entry ≡ Some entry
+        → StepTogether m board formula inputs pick entry }
+    ensures none { (m : Meanings) (board : Board) (seat : ℕ) (formula : List ℕ) (inputs : Port)
+        (pick : Option ℕ) (why : Refusal)
+        → change_at m board (Step formula inputs pick) ≡ Err why
+        → (answer_at m room board seat (Step formula inputs pick)).entry ≡ None }
 {
     let _ = room;
 }

@@ -4,14 +4,30 @@ ghost use Rattle.asm_board.specs.Calls as spec;
 
 use crate::board::Slot;
 use crate::call::Call;
+use crate::content::Content;
 use crate::reply::Body;
-use asm_value::{List, Text};
+use asm_portable::Port;
+use asm_value::{List, Shared, Text};
 
 /// A model with its version, which is 0 where there is no such model.
 #[derive(Debug, Drop)]
 pub struct NameVersion {
     pub name: Text,
     pub version: u64,
+}
+
+/// A model's new content, none where the model goes.
+#[derive(Drop)]
+pub struct News {
+    pub name: Text,
+    pub content: Option<Shared<Content>>,
+}
+
+/// An accepted change: its Ok tree, and the new contents.
+#[derive(Drop)]
+pub struct Accepted {
+    pub ok: Port,
+    pub news: List<News>,
 }
 
 /// A model's new slot, none where the model goes. Its version is 0, in whose place the commit puts

@@ -1,12 +1,13 @@
 //! Refusals.
 ghost use Rattle.std.specs.Prelude.{◌≡◌, [], ◌∷◌, ◌++◌, IfOk, OnOk};
-ghost use Rattle.asm_portable.specs.Ports.{text, number, field};
+ghost use Rattle.asm_portable.specs.Ports.{text, number, list, field};
 ghost use Rattle.asm_board.specs.Refusals as spec;
 ghost use Rattle.asm_board.specs.Replies.{refusal_fields};
 
+use asm_formula::FormulaRefusal;
 use asm_portable::{Field, Port, push_field};
 use asm_program::BadText;
-use asm_value::List;
+use asm_value::{List, Text};
 use std::alloc::{AllocError, Global};
 
 /// Why a line or a call is refused, without where and by what.
@@ -20,6 +21,8 @@ pub enum RefusalName {
     BadJson,
     /// The line is JSON, and no request.
     BadRequest,
+    /// A read is to be answered after more entries than there are.
+    Ahead,
     /// The name is no identifier of 1 to 64 bytes.
     BadName,
     /// The model exists.
@@ -36,12 +39,18 @@ pub enum RefusalName {
     StateFull,
     /// A state breaks an invariant of its model.
     Broken,
+    /// The text is no formula.
+    BadFormula,
     /// What is given for a function doesn't fit.
     BadInput,
+    /// What other models offer for a function doesn't fit.
+    WireUnfit,
     /// A step has a fault.
     Fault,
     /// A step's update set gives one location two values.
     Clash,
+    /// Two models of a formula give one location two values.
+    JoinClash,
     /// The model has an invariant of this name.
     InvTaken,
     /// The model has no invariant of this name.
@@ -64,6 +73,7 @@ impl RefusalName {
             RefusalName::LineTooLong => "LineTooLong",
             RefusalName::BadJson => "BadJson",
             RefusalName::BadRequest => "BadRequest",
+            RefusalName::Ahead => "Ahead",
             RefusalName::BadName => "BadName",
             RefusalName::NameTaken => "NameTaken",
             RefusalName::ModelsFull => "ModelsFull",
@@ -72,9 +82,12 @@ impl RefusalName {
             RefusalName::InitFault => "InitFault",
             RefusalName::StateFull => "StateFull",
             RefusalName::Broken => "Broken",
+            RefusalName::BadFormula => "BadFormula",
             RefusalName::BadInput => "BadInput",
+            RefusalName::WireUnfit => "WireUnfit",
             RefusalName::Fault => "Fault",
             RefusalName::Clash => "Clash",
+            RefusalName::JoinClash => "JoinClash",
             RefusalName::InvTaken => "InvTaken",
             RefusalName::UnknownInv => "UnknownInv",
             RefusalName::InvsFull => "InvsFull",
@@ -93,7 +106,7 @@ pub struct Refusal {
 }
 
 /// Puts a text under a key after the fields.
-fn push_text(
+pub(crate) fn push_text(
     alloc: Global,
     fields: &mut List<Field>,
     key: &str,
@@ -102,6 +115,38 @@ fn push_text(
     ensures { OnOk result (fields.new ≡ fields.old ++ field key.now (text value.now) ∷ []) }
 {
     push_field(alloc, fields, key, Port::from_text(alloc, value)?)
+}
+
+/// Why a text is no formula, in a reply.
+fn formula_kind(why: &FormulaRefusal) -> &'static str
+    ensures { result.now ≡ spec.formula_kind why.now }
+{
+    match why {
+        FormulaRefusal::Syntax(_) => "Syntax",
+        FormulaRefusal::TooMany => "TooMany",
+        FormulaRefusal::Repeated(_) => "Repeated",
+        FormulaRefusal::NoMemory => "",
+    }
+}
+
+/// The byte at which a text is no formula, 0 where that is of the whole.
+fn formula_place(why: &FormulaRefusal) -> u64
+    ensures { result ≡ spec.formula_place why.now }
+{
+    match why {
+        FormulaRefusal::Syntax(at) => *at,
+        FormulaRefusal::TooMany | FormulaRefusal::Repeated(_) | FormulaRefusal::NoMemory => 0,
+    }
+}
+
+/// A list of two trees.
+fn pair(alloc: Global, first: Port, second: Port) -> Result<Port, AllocError>
+    ensures { IfOk result (λ tree. tree ≡ list (first ∷ second ∷ [])) }
+{
+    let mut trees = List::new(alloc);
+    trees.push(first)?;
+    trees.push(second)?;
+    Ok(Port::List(trees))
 }
 
 /// One field with a number.
@@ -163,6 +208,14 @@ impl Refusal {
         Ok(Refusal::with_fields(RefusalName::BadRequest, fields))
     }
 
+    /// The refusal of a read that is to be answered after more entries than there are.
+    pub fn ahead(alloc: Global, have: u64) -> Result<Refusal, AllocError>
+        ensures { IfOk result (λ refusal. refusal ≡ spec.ahead have) }
+    {
+        let fields = one_number(alloc, "have", have)?;
+        Ok(Refusal::with_fields(RefusalName::Ahead, fields))
+    }
+
     /// The refusal of a name that no model may have.
     pub fn bad_name(alloc: Global) -> Refusal
         ensures { result ≡ spec.bad_name }
@@ -219,6 +272,61 @@ impl Refusal {
         push_text(alloc, &mut fields, "function", function)?;
         push_text(alloc, &mut fields, "model", model)?;
         Ok(Refusal::with_fields(RefusalName::BadInput, fields))
+    }
+
+    /// The refusal of a text that is no formula.
+    pub fn bad_formula(alloc: Global, why: &FormulaRefusal) -> Result<Refusal, AllocError>
+        ensures { IfOk result (λ refusal. refusal ≡ spec.bad_formula why.now) }
+    {
+        let mut fields = List::new(alloc);
+        push_text(alloc, &mut fields, "kind", formula_kind(why))?;
+        push_field(
+            alloc,
+            &mut fields,
+            "place",
+            Port::from_number(formula_place(why)),
+        )?;
+        Ok(Refusal::with_fields(RefusalName::BadFormula, fields))
+    }
+
+    /// The refusal of what other models offer for a function of a model.
+    pub fn wire_unfit(alloc: Global, function: &str, model: &str) -> Result<Refusal, AllocError>
+        ensures { IfOk result (λ refusal. refusal ≡ spec.wire_unfit function.now model.now) }
+    {
+        let mut fields = List::new(alloc);
+        push_text(alloc, &mut fields, "function", function)?;
+        push_text(alloc, &mut fields, "model", model)?;
+        Ok(Refusal::with_fields(RefusalName::WireUnfit, fields))
+    }
+
+    /// The refusal of two values for one location: the arguments of a function, by its name.
+    pub fn join_clash(
+        alloc: Global,
+        function: &Text,
+        args: List<Port>,
+        first: Port,
+        second: Port,
+    ) -> Result<Refusal, AllocError>
+        ensures { IfOk result (λ refusal. refusal ≡ spec.join_clash
+            (record { function = function.now; args = args; value = first })
+            (record { function = function.now; args = args; value = second })) }
+    {
+        let values = pair(alloc, first, second)?;
+        let mut fields = List::new(alloc);
+        push_field(alloc, &mut fields, "args", Port::List(args))?;
+        push_text(alloc, &mut fields, "function", function.as_str())?;
+        push_field(alloc, &mut fields, "values", values)?;
+        Ok(Refusal::with_fields(RefusalName::JoinClash, fields))
+    }
+
+    /// The refusal of a term that was asked for, whose evaluation has a fault of this kind.
+    pub fn value_fault(alloc: Global, kind: &str, model: &str) -> Result<Refusal, AllocError>
+        ensures { IfOk result (λ refusal. refusal ≡ spec.value_fault kind.now model.now) }
+    {
+        let mut fields = List::new(alloc);
+        push_text(alloc, &mut fields, "kind", kind)?;
+        push_text(alloc, &mut fields, "model", model)?;
+        Ok(Refusal::with_fields(RefusalName::Fault, fields))
     }
 
     /// The refusal, under this name, of an invariant of a model.
@@ -302,13 +410,15 @@ impl Refusal {
         &self.why
     }
 
-    /// The fields of the reply that tells it, besides the number.
-    pub(crate) fn fields(&self, alloc: Global) -> Result<List<Field>, AllocError>
-        ensures { IfOk result (λ fields. fields ≡ refusal_fields self.now) }
+    /// Puts the fields of the reply that tells it, besides the number, after the fields.
+    pub(crate) fn push_fields(
+        &self,
+        alloc: Global,
+        fields: &mut List<Field>,
+    ) -> Result<(), AllocError>
+        ensures { OnOk result (fields.new ≡ fields.old ++ refusal_fields self.now) }
     {
-        let mut fields = List::new(alloc);
-        push_text(alloc, &mut fields, "no", self.name())?;
-        push_field(alloc, &mut fields, "why", self.why.copy(alloc)?)?;
-        Ok(fields)
+        push_text(alloc, fields, "no", self.name())?;
+        push_field(alloc, fields, "why", self.why.copy(alloc)?)
     }
 }

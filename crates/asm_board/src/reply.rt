@@ -1,8 +1,8 @@
 //! Answers, and their text.
-ghost use Rattle.std.specs.Prelude.{◌≡◌, ℕ, List, [], ◌∷◌, codes, drop, IfOk};
+ghost use Rattle.std.specs.Prelude.{◌≡◌, ℕ, List, ◌∷◌, ◌++◌, drop, IfOk, OnOk};
 ghost use Rattle.asm_portable.specs.Json.{json_text};
-ghost use Rattle.asm_portable.specs.Ports.{field, fields as fields_tree};
-ghost use Rattle.asm_board.specs.Replies.{body_fields, reply_of, tail_of};
+ghost use Rattle.asm_portable.specs.Ports.{fields as fields_tree};
+ghost use Rattle.asm_board.specs.Replies.{body_fields, reply_of, reply_port, tail_of};
 
 use crate::refusal::Refusal;
 use asm_portable::{Field, Port, port_text, push_field};
@@ -43,23 +43,14 @@ fn text_behind(alloc: Global, fields: List<Field>) -> Result<Text, AllocError>
     Text::from_str(alloc, behind_brace(text.as_str()))
 }
 
-/// The fields of the reply that tells this tree, besides the number.
-fn ok_fields(alloc: Global, tree: &Port) -> Result<List<Field>, AllocError>
-    ensures { IfOk result (λ fields. fields ≡ field (codes "ok") tree.now ∷ []) }
-{
-    let mut fields = List::new(alloc);
-    push_field(alloc, &mut fields, "ok", tree.copy(alloc)?)?;
-    Ok(fields)
-}
-
 impl Body {
-    /// The fields of its reply besides the number.
-    fn fields(&self, alloc: Global) -> Result<List<Field>, AllocError>
-        ensures { IfOk result (λ fields. fields ≡ body_fields self.now) }
+    /// Puts the fields of its reply, besides the number, after the fields.
+    fn push_fields(&self, alloc: Global, fields: &mut List<Field>) -> Result<(), AllocError>
+        ensures { OnOk result (fields.new ≡ fields.old ++ body_fields self.now) }
     {
         match self {
-            Body::Ok(tree) => ok_fields(alloc, tree),
-            Body::No(refusal) => refusal.fields(alloc),
+            Body::Ok(tree) => push_field(alloc, fields, "ok", tree.copy(alloc)?),
+            Body::No(refusal) => refusal.push_fields(alloc, fields),
         }
     }
 
@@ -67,7 +58,19 @@ impl Body {
     pub fn tail(&self, alloc: Global) -> Result<Text, AllocError>
         ensures { IfOk result (λ tail. tail ≡ tail_of self.now) }
     {
-        text_behind(alloc, self.fields(alloc)?)
+        let mut fields = List::new(alloc);
+        self.push_fields(alloc, &mut fields)?;
+        text_behind(alloc, fields)
+    }
+
+    /// The reply that tells it after this many entries, as a tree.
+    pub fn reply_port(&self, alloc: Global, at: u64) -> Result<Port, AllocError>
+        ensures { IfOk result (λ port. port ≡ reply_port at self.now) }
+    {
+        let mut fields = List::new(alloc);
+        push_field(alloc, &mut fields, "at", Port::from_number(at))?;
+        self.push_fields(alloc, &mut fields)?;
+        Ok(Port::Fields(fields))
     }
 }
 

@@ -22,3 +22,12 @@ returns-in-DropInvariant c = grind (arith, rules, weight_steps)
 
 pub returns-in-Rollback : goal.returns-in-Rollback
 returns-in-Rollback c = grind (arith, rules, weight_steps)
+
+pub returns-in-State : goal.returns-in-State
+returns-in-State c = grind (arith, rules, weight_steps)
+
+pub returns-in-Value : goal.returns-in-Value
+returns-in-Value c = grind (arith, rules, weight_steps)
+
+pub returns-in-Log : goal.returns-in-Log
+returns-in-Log c = grind (arith, rules, weight_steps)
