@@ -1,2 +1,3 @@
--- What stands behind what.
+-- What stands behind what, and the models of some names.
 pub mod Behind
+pub mod Among

@@ -10,7 +10,7 @@ use asm_value::{List, Update};
 use std::alloc::{AllocError, Global};
 
 /// Whether the environment may set a function.
-fn is_input(kind: FunctionKind) -> bool
+pub(crate) fn is_input(kind: FunctionKind) -> bool
     ensures { result ≡ kinds.is_input kind }
 {
     match kind {

@@ -40,7 +40,7 @@ fn place_of(text: &str, at: u32) -> Place
     Place { line, column }
 }
 
-fn fault_text(kind: FaultKind) -> &'static str
+pub(crate) fn fault_text(kind: FaultKind) -> &'static str
     ensures { result.now ≡ spec.fault_text kind }
 {
     match kind {

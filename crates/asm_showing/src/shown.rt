@@ -201,7 +201,7 @@ impl Kinds {
 }
 
 /// Whether the environment is told of a function of this kind.
-fn is_out(kind: FunctionKind) -> bool
+pub(crate) fn is_out(kind: FunctionKind) -> bool
     ensures { result ≡ kinds.is_out kind }
 {
     match kind {
@@ -339,7 +339,7 @@ pub fn models_shown(alloc: Global, models: &[NamedSlot]) -> Result<Port, AllocEr
 }
 
 /// What the environment is told of a content: its out functions that are defined.
-fn outs_shown(alloc: Global, content: &Content) -> Result<Port, AllocError>
+pub(crate) fn outs_shown(alloc: Global, content: &Content) -> Result<Port, AllocError>
     ensures { IfOk result (λ port. port ≡ spec.outs_shown content.now) }
 {
     let fields = defined(
@@ -349,15 +349,4 @@ fn outs_shown(alloc: Global, content: &Content) -> Result<Port, AllocError>
         content.state().get(),
     )?;
     Ok(Port::Fields(List::from_vec(fields)))
-}
-
-/// What a step tells: the out functions of its model, which has this content.
-pub fn out_shown(alloc: Global, name: &str, content: &Content) -> Result<Port, AllocError>
-    ensures { IfOk result (λ port. port ≡ spec.out_shown name.now content.now) }
-{
-    let mut models = List::new(alloc);
-    push_field(alloc, &mut models, name, outs_shown(alloc, content)?)?;
-    let mut fields = List::new(alloc);
-    push_field(alloc, &mut fields, "out", Port::Fields(models))?;
-    Ok(Port::Fields(fields))
 }
