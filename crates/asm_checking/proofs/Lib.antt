@@ -1,3 +1,4 @@
+pub mod Canonicals
 pub mod Causes
 pub mod Meanings
 pub mod Places

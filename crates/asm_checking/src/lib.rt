@@ -2,9 +2,11 @@
 #![tactic(auto)]
 
 mod bad_texts;
+mod canonical;
 mod terms;
 mod texts;
 mod untyped;
 
+pub use canonical::canonical_of;
 pub use terms::term_of;
 pub use texts::program_of;
