@@ -1,25 +1,21 @@
 -- What a prepared call is answered, and what its entry leaves.
-use Rattle.std.proofs.Common.{◌≡◌, ℕ, ◌+◌, ◌-◌, ◌≤◌, ◌^◌, min, Bool, true, false, cond, ◌&&◌, nat_lt, nat_le, if◌then◌else◌, List, [], ◌∷◌, ◌++◌, length, length-append, Some, None, Ok, Err, option_map, refl, sym, ap, subst, ◌∙◌, arith}
+use Rattle.std.proofs.Common.{◌≡◌, ℕ, ◌+◌, ◌-◌, ◌≤◌, ◌^◌, min, Bool, true, false, cond, List, [], ◌∷◌, ◌++◌, length, length-append, Some, None, option_map, sym, ap, subst, ◌∙◌, arith}
 use Rattle.std.proofs.lemmas.Bool.Decides.{nat_tests}
-use Rattle.asm_portable.specs.declared.port.Port.{Port}
 use Rattle.asm_board.specs.declared.board.Board.{Board}
 use Rattle.asm_board.specs.declared.call.Call.{Call}
 use Rattle.asm_board.specs.declared.entry.Entry.{Entry}
-use Rattle.asm_board.specs.declared.reply.Body.{Body}
-use Rattle.asm_board.specs.declared.reply.Body.TheVariants as bodies
 use Rattle.asm_board.specs.declared.outcome.Outcome.{Outcome}
 use Rattle.asm_board.specs.declared.outcome.Next.{Next}
 use Rattle.asm_board.specs.declared.prepared.Prepared.{Prepared}
-use Rattle.asm_board.specs.Calls.{is_change, entry_weight}
-use Rattle.asm_board.specs.Changes.{Change}
+use Rattle.asm_board.specs.Calls.{is_change, is_log, entry_weight}
 use Rattle.asm_board.specs.Meanings.{Meanings}
-use Rattle.asm_board.specs.Boards.{model_limit, body_of_change, body_of_read, weight_of_change, body_weight, with_entry, change_at, body_at, slots_at, applied}
-use Rattle.asm_board.specs.Reads.{read}
-use Rattle.asm_board.specs.Refusals.{models_full, journal_full}
-use Rattle.asm_board.specs.Answers.{Answer, told, without_entry, entry_at, with_room, outcome, outcome_of, answer_change, answer_at, answer_in, answer, Stands}
+use Rattle.asm_board.specs.Boards.{with_entry, body_at, applied, board_of}
+use Rattle.asm_board.specs.Logs.{log_of}
+use Rattle.asm_board.specs.Answers.{Answer, told, without_entry, outcome, outcome_of, answer_change, answer_at, answer_in, answer, Stands}
 use Rattle.asm_core.specs.Servers.{Keeps, Server}
 use Rattle.asm_core.specs.Language.{asmeta}
 use Rattle.asm_board.proofs.Entries.{weighs_at, some_weight, made_by, outcome_entry}
+use Rattle.asm_board.proofs.CallKinds.{no_log}
 use Rattle.asm_board.proofs.Journals.{board_of-push}
 
 -- ---- the answer is that of what was prepared
@@ -62,10 +58,22 @@ pub settled : (server : Server) (room : ℕ) (journal : List Entry) (board : Boa
     → server ≡ record { room = room; journal = journal } → Keeps room journal board → Stands asmeta p c board → is_change p.call ≡ true
     → answer_in o ≡ outcome_of room board 0 p → answer asmeta server.room server.journal 0 c ≡ answer_in o
 settled server room journal board c p o view k s is answered =
+    let change : is_change c ≡ true = ap is_change (sym s.is_call) ∙ is in
     ap (λ (x : Server). answer asmeta x.room x.journal 0 c) view
+    ∙ ap (λ (t : Bool). cond t (without_entry (length journal) (log_of journal c)) (answer_at asmeta room (board_of asmeta journal) 0 c)) (no_log c change)
     ∙ ap (λ b. answer_at asmeta room b 0 c) (sym k.is_board)
-    ∙ change_answered asmeta room 0 board c p s (ap is_change (sym s.is_call) ∙ is)
+    ∙ change_answered asmeta room 0 board c p s change
     ∙ sym answered
+
+-- a read that is no log
+pub read_is : (server : Server) (room : ℕ) (journal : List Entry) (board : Board) (c : Call) (p : Prepared)
+    → server ≡ record { room = room; journal = journal } → Keeps room journal board → Stands asmeta p c board → is_change p.call ≡ false → is_log c ≡ false
+    → answer asmeta server.room server.journal 0 c ≡ record { reply = told board.front p.body p.tail; entry = None }
+read_is server room journal board c p view k s is other =
+    ap (λ (x : Server). answer asmeta x.room x.journal 0 c) view
+    ∙ ap (λ (t : Bool). cond t (without_entry (length journal) (log_of journal c)) (answer_at asmeta room (board_of asmeta journal) 0 c)) other
+    ∙ ap (λ b. answer_at asmeta room b 0 c) (sym k.is_board)
+    ∙ read_answered asmeta room 0 board c p s (ap is_change (sym s.is_call) ∙ is)
 
 -- the entry of what is answered, and the parts after it
 pub keeps_settled : (room : ℕ) (journal journal' : List Entry) (board : Board) (c : Call) (p : Prepared) (o : Outcome) (n : Next) (e : Entry)

@@ -1,10 +1,8 @@
--- What is given for a model is updates of its functions that fit.
-use Rattle.std.proofs.Common.{◌≡◌, ℕ, Bool, true, false, cond, not, ◌&&◌, ◌||◌, List, [], ◌∷◌, ◌++◌, map, filter, Option, Some, None, slice_get, option_map, option_and_then, Ok, Err, IfOk, IfSome, refl, sym, ap, subst, ◌∙◌}
-use Rattle.std.specs.Prelude.{Result}
+-- What is given to a model and what it takes of offers are updates of its functions that fit.
+use Rattle.std.proofs.Common.{◌≡◌, ℕ, Bool, true, false, cond, not, ◌&&◌, ◌||◌, List, [], ◌∷◌, ◌++◌, map, filter, Option, Some, None, slice_get, option_map, option_and_then, Ok, Err, IfOk, IfSome, refl, ap}
 use Rattle.std.specs.Option.{option_map_or}
 use Rattle.std.specs.Result.{result_ok}
 use Rattle.std.specs.List.{AllByRecursion}
-use Rattle.std.specs.Str.{bytes_eq}
 use Rattle.std.specs.Ordering.{is_eq}
 use Rattle.std.proofs.lemmas.Cmp.{tied_itself}
 use Rattle.asm_value.specs.declared.value.Value.{Value}
@@ -24,13 +22,16 @@ use Rattle.asm_program.specs.declared.program.FunctionKind.TheVariants as kinds
 use Rattle.asm_program.specs.Functions.{function_named}
 use Rattle.asm_portable.specs.declared.port.Port.{Port}
 use Rattle.asm_portable.specs.declared.port.Field.{Field}
-use Rattle.asm_portable.specs.Ports.{as_list, is_null, fields_of}
+use Rattle.asm_portable.specs.Ports.{as_list, is_null}
 use Rattle.asm_portable.specs.Reading.{Read, value_of}
+use Rattle.asm_compose.specs.declared.given.Given.{Given}
+use Rattle.asm_compose.specs.Offers.{Offer}
 use Rattle.asm_board.specs.declared.refusal.Refusal.{Refusal}
 use Rattle.asm_board.specs.Kinds.{is_input}
 use Rattle.asm_board.specs.Contents.{Contents}
-use Rattle.asm_board.specs.Refusals.{Tried, after}
-use Rattle.asm_board.specs.Inputs.{and_others, set_to, once_each, repeats, value_in, value_or_undef, args_in, update_in, pair_in, pair_of, pairs_in, listed_in, updates_in, input_in, function_in, unless_misfit, both_given, functions_given, model_given, given}
+use Rattle.asm_board.specs.Refusals.{Tried}
+use Rattle.asm_board.specs.Inputs.{and_others, set_to, once_each, repeats, value_in, value_or_undef, args_in, update_in, pair_in, pair_of, pairs_in, listed_in, updates_in, input_in, function_in, unless_misfit, both_given, functions_given, hears, is_input_of, is_given, is_taken, offered_in, offered_update, disagrees, with_offered, offered_from, offered, inputs_of}
+use Rattle.asm_board.proofs.Found.{goes_by}
 use Rattle.asm_soundness.specs.WellFormed.{is_dynamic}
 use Rattle.asm_soundness.specs.Keeping.{IsInput}
 
@@ -205,20 +206,56 @@ module _ (reads : ReadsFit) (content : Contents) where
   both_are (Ok us) (Err why) h k = tt
   both_are (Ok us) (Ok vs) h k = all_append (IsInput content.program content.state) us vs h k
 
-  functions_are : (name : List ℕ) (fs : List Field) → IfOk (functions_given name content fs) All
-  functions_are name [] = tt
-  functions_are name (f ∷ fs) =
+  given_are : (name : List ℕ) (fs : List Field) → IfOk (functions_given name content fs) All
+  given_are name [] = tt
+  given_are name (f ∷ fs) =
       both_are (unless_misfit f.key name (function_in content f.key f.tree)) (functions_given name content fs)
-      (fit_are f.key name (function_in content f.key f.tree) (function_are f.key f.tree)) (functions_are name fs)
+      (fit_are f.key name (function_in content f.key f.tree) (function_are f.key f.tree)) (given_are name fs)
 
-  -- ---- one model
+  -- ---- what is offered
 
-  model_at : (name : List ℕ) (f : Field) (t : Bool) (why : Refusal) → IfOk (cond t (functions_given name content (fields_of f.tree)) (Err why)) All
-  model_at name f true why = functions_are name (fields_of f.tree)
-  model_at name f false why = tt
+  offered_one : (g : Given) (f : ℕ) (o : Option FunctionInfo) → slice_get content.program.functions f ≡ o → is_input_of content o ≡ true → IfSome (offered_in content f o g) (IsInput content.program content.state)
+  offered_one g f None declared hears = tt
+  offered_one g f (Some info) declared hears = update_is f info declared hears g.args g.value
 
-  -- each update that is given for a model is of one of its functions, and fits
-  pub inputs_are : (name : List ℕ) (fs : List Field) → IfOk (given name content fs) All
-  inputs_are name [] = tt
-  inputs_are name (f ∷ fs) =
-      both_are (model_given name content f) (given name content fs) (model_at name f (bytes_eq f.key name) _) (inputs_are name fs)
+  offered_by : (g : Given) (o : Option ℕ) → option_map_or (λ f. is_input_of content (slice_get content.program.functions f)) o false ≡ true
+      → IfSome (option_and_then (λ f. offered_in content f (slice_get content.program.functions f) g) o) (IsInput content.program content.state)
+  offered_by g None heard = tt
+  offered_by g (Some f) heard = offered_one g f (slice_get content.program.functions f) refl heard
+
+  update_are : (g : Given) → hears content g.function ≡ true → IfSome (offered_update content g) (IsInput content.program content.state)
+  update_are g heard = offered_by g (function_named 0 content.program.functions g.function) heard
+
+  agree_are : (function name : List ℕ) (us : List Update) (u : Update) (t : Bool) (why : Refusal) → All us → IsInput content.program content.state u
+      → IfOk (cond t (Err why) (Ok (us ++ u ∷ []))) All
+  agree_are function name us u true why all one = tt
+  agree_are function name us u false why all one = all_append (IsInput content.program content.state) us (u ∷ []) all (one, tt)
+
+  with_are : (function name : List ℕ) (us : List Update) (o : Option Update) → All us → IfSome o (IsInput content.program content.state) → IfOk (with_offered content function name us o) All
+  with_are function name us None all one = tt
+  with_are function name us (Some u) all one = agree_are function name us u (disagrees us u) _ all one
+
+  from_are : (name : List ℕ) (us : List Update) (gs : List Given) → All us → AllByRecursion (λ g. hears content g.function ≡ true) gs → IfOk (offered_from content name us gs) All
+  from_are name us [] all heard = all
+  from_are name us (g ∷ gs) all heard =
+      goes_by All All (with_offered content g.function name us (offered_update content g)) _
+      (with_are g.function name us (offered_update content g) all (update_are g heard.0)) (λ vs more. from_are name vs gs more heard.1)
+
+  first_true : (a b : Bool) → (a && b) ≡ true → a ≡ true
+  first_true true b h = refl
+  first_true false b h = h
+
+  taken_at : (fs : List Field) (g : Given) (gs : List Given) (t : Bool) → is_taken content fs g ≡ t → AllByRecursion (λ (h : Given). hears content h.function ≡ true) (filter (is_taken content fs) gs)
+      → AllByRecursion (λ (h : Given). hears content h.function ≡ true) (cond t (g ∷ filter (is_taken content fs) gs) (filter (is_taken content fs) gs))
+  taken_at fs g gs true is rest = (first_true (hears content g.function) (not (is_given fs g.function)) is, rest)
+  taken_at fs g gs false is rest = rest
+
+  taken_hear : (fs : List Field) (gs : List Given) → AllByRecursion (λ (h : Given). hears content h.function ≡ true) (filter (is_taken content fs) gs)
+  taken_hear fs [] = tt
+  taken_hear fs (g ∷ gs) = taken_at fs g gs (is_taken content fs g) refl (taken_hear fs gs)
+
+  -- each input of a step is an update of one of the model's functions, and fits
+  pub inputs_are : (name : List ℕ) (fs : List Field) (offer : Offer) → IfOk (inputs_of content name fs offer) All
+  inputs_are name fs offer =
+      both_are (functions_given name content fs) (offered content name fs offer) (given_are name fs)
+      (from_are name [] (filter (is_taken content fs) offer) tt (taken_hear fs offer))

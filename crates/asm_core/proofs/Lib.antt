@@ -1,6 +1,8 @@
 pub mod Answered
 pub mod Holding
+pub mod Joining
 pub mod Kept
+pub mod Logged
 pub mod Newest
 pub mod Runs
 pub mod Sources

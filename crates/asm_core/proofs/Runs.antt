@@ -10,13 +10,13 @@ use Rattle.asm_board.specs.declared.call.Call.{Call}
 use Rattle.asm_board.specs.declared.entry.Entry.{Entry}
 use Rattle.asm_board.specs.declared.prepared.Prepared.{Prepared}
 use Rattle.asm_board.specs.Meanings.{Meanings}
-use Rattle.asm_board.specs.Calls.{footprint, is_change}
+use Rattle.asm_board.specs.Calls.{footprint, is_change, is_log}
 use Rattle.asm_board.specs.Boards.{version_of, versions_at, board_of}
 use Rattle.asm_board.specs.Slots.{Models, version_in, versions_in}
 use Rattle.asm_board.specs.Answers.{answer, outcome_of, Legal, Stands, Verdict, Settled, first_stale, unless_stale, settle}
 use Rattle.asm_core.specs.World.{Seat, World, Event, Peek, Prepare, Commit, Hold, new_world, seen_by, entry_of, with_verdict, read_answer, KeepsChange, IsPossible, settle_kept, reply_to, after_reply, happened, Happen, IsReached, seat_of, entries_told, accepted_of, entries_of, IsAnswered, KeptIsAnswered, TellsRight, WorldIsOrderly}
 use Rattle.asm_board.proofs.StillStands.{still_stands, settled_is_answered}
-use Rattle.asm_board.proofs.Legal.{grows_legally, answer_at_of, entry_is, outcome_tells, front_is}
+use Rattle.asm_board.proofs.Legal.{grows_legally, answer_at_of, made_at, entry_is, outcome_tells, front_is}
 
 -- ---- lists
 
@@ -103,7 +103,7 @@ module _ (m : Meanings) (room : ℕ) where
     legal = good.legal;
     seen = λ s. chosen (λ (x : Seat). x.seen ≤ length w.journal) (s == seat) (record { seen = (w.seats seat).seen; kept = Some p }) (w.seats s) (good.seen seat) (good.seen s);
     kept = λ s. chosen (λ (x : Seat). KeptStands w.journal x.kept) (s == seat) (record { seen = (w.seats seat).seen; kept = Some p }) (w.seats s)
-        (seen_by w seat, (prefix_take (w.seats seat).seen w.journal, subst (λ d. Stands m p d (board_of m (seen_by w seat))) (sym can.is_call) can)) (good.kept s);
+        (seen_by w seat, (prefix_take (w.seats seat).seen w.journal, subst (λ d. Stands m p d (board_of m (seen_by w seat))) (sym can.1.is_call) can.1)) (good.kept s);
   }
   good_next w (Commit seat) can good = commit_good w seat (w.seats seat).kept good can (good.kept seat)
   good_next w (Hold seat c) can good = verdict_good w seat (w.seats seat).kept (Settled (answer m room w.journal seat c)) good (grows_legally m room w.journal seat c good.legal) (good.kept seat)
@@ -124,15 +124,16 @@ module _ (m : Meanings) (room : ℕ) where
   answered_now journal seat c = (length journal, (omega arith, ap (λ h. answer m room h seat c) (take_all (length journal) journal (omega arith))))
 
   -- the answer to a read that stands is what was prepared
-  read_is : (journal : List Entry) (seat : ℕ) (c : Call) (p : Prepared) → is_change c ≡ false → Stands m p c (board_of m journal) → answer m room journal seat c ≡ read_answer (length journal) p
-  read_is journal seat c p is s = rw (s.body, s.tail, sym (front_is m journal), is) refl
+  read_is : (journal : List Entry) (seat : ℕ) (c : Call) (p : Prepared) → is_log c ≡ false → is_change c ≡ false → Stands m p c (board_of m journal)
+      → answer m room journal seat c ≡ read_answer (length journal) p
+  read_is journal seat c p other is s = rw (other, s.body, s.tail, sym (front_is m journal), is) refl
 
-  prepare_answered : (w : World) (seat : ℕ) (c : Call) (p : Prepared) (t : Bool) → is_change c ≡ t → IsGood w → Stands m p c (board_of m (seen_by w seat))
+  prepare_answered : (w : World) (seat : ℕ) (c : Call) (p : Prepared) (t : Bool) → is_log c ≡ false → is_change c ≡ t → IsGood w → Stands m p c (board_of m (seen_by w seat))
       → IsAnswered m room w.journal seat c (cond t None (Some (Settled (read_answer (w.seats seat).seen p))))
-  prepare_answered w seat c p true is good s = tt
-  prepare_answered w seat c p false is good s =
+  prepare_answered w seat c p true other is good s = tt
+  prepare_answered w seat c p false other is good s =
       let k = (w.seats seat).seen in
-      (k, (good.seen seat, read_is (take k w.journal) seat c p is s ∙ ap (λ n. read_answer n p) (length-take-le k w.journal (good.seen seat))))
+      (k, (good.seen seat, read_is (take k w.journal) seat c p other is s ∙ ap (λ n. read_answer n p) (length-take-le k w.journal (good.seen seat))))
 
   kept_answered : (journal : List Entry) (seat : ℕ) (p : Prepared) (s : Option (List ℕ × (ℕ × ℕ))) → is_change p.call ≡ true → KeptStands journal (Some p) → first_stale p.versions (board_of m journal) ≡ s
       → IsAnswered m room journal seat p.call (Some (settle m room journal seat p))
@@ -147,7 +148,7 @@ module _ (m : Meanings) (room : ℕ) where
 
   answered : (w : World) (e : Event) → IsReached m room w → IsPossible m room w e → TellsRight m room w e
   answered w (Peek seat front) r can = tt
-  answered w (Prepare seat c p) r can = prepare_answered w seat c p (is_change c) refl (good_reached w r) can
+  answered w (Prepare seat c p) r can = prepare_answered w seat c p (is_change c) can.0 refl (good_reached w r) can.1
   answered w (Commit seat) r can = commit_answered w.journal seat (w.seats seat).kept can ((good_reached w r).kept seat)
   answered w (Hold seat c) r can = answered_now w.journal seat c
 
@@ -208,7 +209,7 @@ module _ (m : Meanings) (room : ℕ) where
   next_entries w (Peek seat front) s = adds_nothing s (seat == s) w.journal [] refl
   next_entries w (Prepare seat c p) s = adds_nothing s (seat == s) w.journal (entries_told (reply_to m room w (Prepare seat c p))) (read_tells (w.seats seat).seen p (is_change c))
   next_entries w (Commit seat) s = commit_entries w seat s (w.seats seat).kept
-  next_entries w (Hold seat c) s = verdict_entries w.journal seat s (answer m room w.journal seat c).entry (λ e is. (answer_at_of m room (board_of m w.journal) seat c e is).of_seat)
+  next_entries w (Hold seat c) s = verdict_entries w.journal seat s (answer m room w.journal seat c).entry (λ e is. (answer_at_of m room (board_of m w.journal) seat c e (made_at m room w.journal seat c e is)).of_seat)
 
   each_from : (w end : World) (es : List Event) (s : ℕ) → Happen m room w es end → entries_of s end.journal ≡ entries_of s w.journal ++ accepted_of m room s w es
   each_from w end [] s h = ap (λ (x : World). entries_of s x.journal) h ∙ sym (append-nil (entries_of s w.journal))

@@ -1,5 +1,5 @@
 -- A text that has a term isn't too long; and what is reported of a term with too much work.
-use Rattle.std.proofs.Common.{◌≡◌, ◌≤◌, ℕ, ◌+◌, ◌==◌, not, min, nat_le, Bool, true, false, cond, List, length, take, decimal, codes, Option, Some, Result, Ok, Err, IfOk, refl, ap, ◌∙◌, subst}
+use Rattle.std.proofs.Common.{◌≡◌, ◌≤◌, ℕ, ◌+◌, ◌==◌, not, min, nat_le, Bool, true, false, cond, List, length, take, decimal, codes, Some, Result, Ok, Err, IfOk, refl, ap, ◌∙◌, subst}
 use Rattle.std.specs.Prelude.{count_by}
 use Rattle.std.specs.List.{suffix_len}
 use Rattle.std.proofs.lemmas.Bool.{leb-true}

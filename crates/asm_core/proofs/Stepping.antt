@@ -1,5 +1,5 @@
 -- Steps of a run, one after another.
-use Rattle.std.proofs.Common.{◌≡◌, ℕ, suc, ◌+◌, ◌-◌, ◌<◌, List, [], Option, Result, Ok, Err, sym, ap, ◌∙◌, subst, arith}
+use Rattle.std.proofs.Common.{◌≡◌, ℕ, suc, ◌+◌, ◌-◌, ◌<◌, [], Option, Result, Ok, Err, sym, ap, ◌∙◌, subst, arith}
 use Rattle.asm_board.specs.declared.refusal.Refusal.{Refusal}
 use Rattle.asm_board.specs.declared.stop.Stop.{Stop}
 use Rattle.asm_board.specs.declared.stop.Stop.TheVariants as stop

@@ -1,10 +1,7 @@
 -- Each state that a journal leads to is well formed.
-use Rattle.std.proofs.Common.{◌≡◌, ℕ, Bool, not, List, [], ◌∷◌, Option, Ok, IfOk, refl, sym, subst}
+use Rattle.std.proofs.Common.{◌≡◌, ℕ, not, List, Option, Ok, refl, sym, subst}
 use Rattle.std.specs.List.{AllByRecursion}
-use Rattle.std.specs.FinMap as finite
 use Rattle.asm_value.specs.declared.location.Location.{Location}
-use Rattle.asm_value.specs.declared.location.Update.{Update}
-use Rattle.asm_value.specs.State.{StateMap, fire}
 use Rattle.asm_program.specs.declared.program.Program.{Program}
 use Rattle.asm_program.specs.Initial.{Started, Starts, StartFaults, initial}
 use Rattle.asm_portable.specs.declared.port.Port.{Port}
@@ -14,11 +11,10 @@ use Rattle.asm_meaning.proofs.Texts.{program_sound}
 use Rattle.asm_board.specs.declared.entry.Entry.{Entry}
 use Rattle.asm_board.specs.Kinds.{is_monitored_subject}
 use Rattle.asm_board.specs.Contents.{Contents}
-use Rattle.asm_board.specs.Stepping.{after_start, with_inputs}
-use Rattle.asm_board.specs.Inputs.{given}
+use Rattle.asm_board.specs.Stepping.{after_start}
+use Rattle.asm_board.specs.Inputs.{given_for, inputs_of}
 use Rattle.asm_board.specs.Slots.{Models}
-use Rattle.asm_board.specs.Steps.{state_before, content_after, FiresItsSet}
-use Rattle.asm_board.specs.Changes.{Accepted}
+use Rattle.asm_board.specs.Steps.{state_before, FiresItsSet}
 use Rattle.asm_board.specs.Boards.{board_of}
 use Rattle.asm_board.proofs.Contents.{IfDone, admitted_is}
 use Rattle.asm_board.proofs.Changing.{StaysSo, each_is}
@@ -49,19 +45,20 @@ sorted_text source program is = let p = program_sound source program is in check
 module _ (reads : ReadsFit) where
   -- ---- a step
 
-  steps_from : (models : Models) (name : List ℕ) (tree : Port) (pick : Option ℕ) (step : Accepted) (fired : FiresItsSet asmeta models name tree pick step)
-      → HasWellFormedState fired.slot.content → HasWellFormedState (content_after fired.slot fired.inputs fired.updates)
-  steps_from models name tree pick step fired before =
+  steps_from : (models : Models) (tree : Port) (pick : Option ℕ) (leaf : List ℕ × Contents) (fired : FiresItsSet asmeta models tree pick leaf)
+      → HasWellFormedState fired.slot.content → HasWellFormedState leaf.1
+  steps_from models tree pick leaf fired before =
       let content : Contents = fired.slot.content in
       let all : AllByRecursion (IsInput content.program content.state) fired.inputs =
       gives (λ us. AllByRecursion (IsInput content.program content.state) us)
-      (given name content (fields_of tree)) fired.inputs (inputs_are reads content name (fields_of tree)) fired.are_given in
+      (inputs_of content leaf.0 (given_for (fields_of tree) leaf.0) fired.are_inputs.offer) fired.inputs
+      (inputs_are reads content leaf.0 (given_for (fields_of tree) leaf.0) fired.are_inputs.offer) fired.are_inputs.are in
       let began : IsWellFormed content.program (state_before fired.slot fired.inputs) =
       inputs_keep content.program content.state (λ (l : Location). not (is_monitored_subject content.program l.subject)) fired.inputs (λ d args. refl) all before.state in
-      record {
+      subst HasWellFormedState (sym fired.is) (record {
         sorted = before.sorted;
         state = steps_keep content.program pick (state_before fired.slot fired.inputs) fired.updates fired.yielded.next before.sorted began fired.yielded.yields fired.yielded.consistent;
-      }
+      })
 
   stays_well : StaysSo asmeta HasWellFormedState
   stays_well = record {

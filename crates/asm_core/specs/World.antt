@@ -1,12 +1,11 @@
 -- The world of a server: what its seats can do, one atomic step after another.
-use Rattle.std.specs.Prelude.{ℕ, ◌≡◌, ◌≤◌, true, Option, Some, None, List, [], ◌∷◌, ◌++◌, length, take, filter, if◌then◌else◌, ◌==◌, option_to_list, ⊤}
-use mathlib.Core.List.{IsPrefix}
+use Rattle.std.specs.Prelude.{ℕ, ◌≡◌, ◌≤◌, true, false, Option, Some, None, List, [], ◌∷◌, ◌++◌, length, take, filter, if◌then◌else◌, ◌==◌, option_to_list, ⊤}
 use Rattle.asm_board.specs.declared.call.Call.{Call}
 use Rattle.asm_board.specs.declared.entry.Entry.{Entry}
 use Rattle.asm_board.specs.declared.prepared.Prepared.{Prepared}
 use Rattle.asm_board.specs.Meanings.{Meanings}
-use Rattle.asm_board.specs.Calls.{is_change}
-use Rattle.asm_board.specs.Boards.{board_of, versions_at}
+use Rattle.asm_board.specs.Calls.{is_change, is_log}
+use Rattle.asm_board.specs.Boards.{board_of}
 use Rattle.asm_board.specs.Answers.{Answer, told, answer, Legal, Stands, Verdict, Stale, Settled, settle}
 
 -- the front that a seat has seen, and what it keeps prepared
@@ -21,7 +20,7 @@ pub record World : Type 0 where
 pub data Event : Type 0 where
   -- looks at the board of this many entries
   Peek : (seat front : ℕ) → Event
-  -- evaluates a call at the board that it has seen; a read is answered there
+  -- evaluates a call other than a log at the board that it has seen; a read is answered there
   Prepare : (seat : ℕ) (call : Call) (prepared : Prepared) → Event
   -- settles the change that it keeps at the newest board
   Commit : (seat : ℕ) → Event
@@ -76,7 +75,7 @@ entries_of seat journal = filter (λ e. e.seat == seat) journal
 module _ (m : Meanings) (room : ℕ) where
   abbrev pub IsPossible : World → Event → Type 0
   IsPossible w (Peek seat front) = ((w.seats seat).seen ≤ front) × (front ≤ length w.journal)
-  IsPossible w (Prepare seat c p) = Stands m p c (board_of m (seen_by w seat))
+  IsPossible w (Prepare seat c p) = (is_log c ≡ false) × Stands m p c (board_of m (seen_by w seat))
   IsPossible w (Commit seat) = KeepsChange (w.seats seat).kept
   IsPossible w (Hold seat c) = Unit {0}
 

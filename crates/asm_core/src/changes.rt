@@ -1,46 +1,40 @@
-//! Changes of models: those that come and go, that step, and that are what they were.
-ghost use Rattle.std.specs.Prelude.{◌≡◌, None, IfOk};
+//! Changes of models: those that come and go, and that are what they were.
+ghost use Rattle.std.specs.Prelude.{◌≡◌, [], ◌∷◌, None, IfOk};
 ghost use Rattle.std.specs.List.{last_or};
-ghost use Rattle.asm_board.specs.Shown as shown;
 ghost use Rattle.asm_board.specs.Changes as spec;
 ghost use Rattle.asm_board.specs.Coming.{Comes};
 ghost use Rattle.asm_portable.specs.Ports as ports;
-ghost use Rattle.asm_core.specs.Preparing.{accepted_of};
 ghost use Rattle.asm_core.specs.Language.{asmeta};
 
 use crate::reads::found;
-use crate::steps::{started, stepped_from};
+use crate::steps::started;
 use crate::texts::program_in;
-use asm_board::{Board, Content, Refusal, Slot, Stop, TrailPair, is_identifier};
-use asm_inputs::given;
+use asm_board::{Accepted, Board, Content, News, Refusal, Slot, Stop, TrailPair, is_identifier};
 use asm_portable::Port;
-use asm_showing::out_shown;
 use asm_trail::content_at;
-use asm_value::{Shared, Text};
+use asm_value::{List, Shared, Text};
 use std::alloc::{AllocError, Global};
 
 /// The most bytes of a model's name.
 const MOST_NAME_BYTES: usize = 64;
 
-/// An accepted change: its Ok tree, and the model's new content, none where the model goes.
-#[derive(Drop)]
-pub(crate) struct Accepted {
-    pub ok: Port,
-    pub content: Option<Shared<Content>>,
-}
-
-/// A change that is told by a word.
+/// A change of one model that is told by a word: its new content, none where it goes.
 pub(crate) fn done(
     alloc: Global,
     word: &str,
+    name: &Text,
     content: Option<Shared<Content>>,
 ) -> Result<Accepted, AllocError>
-    ensures { IfOk result
-        (λ accepted. accepted ≡ record { ok = ports.text word.now; content = content }) }
+    ensures { IfOk result (λ accepted. accepted ≡ record {
+      ok = ports.text word.now;
+      news = record { name = name.now; content = content } ∷ [];
+    }) }
 {
+    let name = name.copy(alloc)?;
+    let news = List::only(alloc, News { name, content })?;
     Ok(Accepted {
         ok: Port::from_text(alloc, word)?,
-        content,
+        news,
     })
 }
 
@@ -62,7 +56,7 @@ fn loaded(alloc: Global, name: &Text, text: &str) -> Result<Shared<Content>, Sto
 
 /// A new model of a text, in its initial state.
 pub(crate) fn load(alloc: Global, board: &Board, name: &Text, text: &str) -> Result<Accepted, Stop>
-    ensures { Comes (accepted_of name.now)
+    ensures { Comes (λ accepted. accepted)
         (spec.load asmeta board.now.slots name.now text.now) result }
 {
     if !is_right_name(name.as_str()) {
@@ -73,45 +67,15 @@ pub(crate) fn load(alloc: Global, board: &Board, name: &Text, text: &str) -> Res
         return Err(Stop::Refused(refusal));
     }
     let content = loaded(alloc, name, text)?;
-    Ok(done(alloc, "loaded", Some(content))?)
+    Ok(done(alloc, "loaded", name, Some(content))?)
 }
 
 /// A model that goes.
 pub(crate) fn unload(alloc: Global, board: &Board, name: &Text) -> Result<Accepted, Stop>
-    ensures { Comes (accepted_of name.now) (spec.unload asmeta board.now.slots name.now) result }
+    ensures { Comes (λ accepted. accepted) (spec.unload asmeta board.now.slots name.now) result }
 {
     found(alloc, board, name)?;
-    Ok(done(alloc, "unloaded", None)?)
-}
-
-/// What a step tells, with the model's new content.
-fn told(alloc: Global, name: &Text, content: Content) -> Result<Accepted, AllocError>
-    ensures { IfOk result (λ accepted. accepted_of name.now accepted ≡ record {
-      ok = shown.out_shown name.now content;
-      news = spec.becomes name.now content;
-    }) }
-{
-    Ok(Accepted {
-        ok: out_shown(alloc, name.as_str(), &content)?,
-        content: Some(Shared::new(alloc, content)?),
-    })
-}
-
-/// One step of a model, with what the environment gives.
-pub(crate) fn step_model(
-    alloc: Global,
-    board: &Board,
-    name: &Text,
-    inputs: &Port,
-    pick: Option<u64>,
-) -> Result<Accepted, Stop>
-    ensures { Comes (accepted_of name.now)
-        (spec.step_model asmeta board.now.slots name.now inputs.now pick) result }
-{
-    let content = found(alloc, board, name)?.content.get();
-    let updates = given(alloc, name.as_str(), content, inputs)?;
-    let next = stepped_from(alloc, name.as_str(), None, pick, content, &updates)?;
-    Ok(told(alloc, name, next)?)
+    Ok(done(alloc, "unloaded", name, None)?)
 }
 
 /// The version of the newest pair, 0 where there is none.
@@ -146,12 +110,12 @@ fn not_in_trail(alloc: Global, name: &Text, slot: &Slot) -> Result<Refusal, Allo
 
 /// A model that is what it was at an earlier version.
 pub(crate) fn rollback(alloc: Global, board: &Board, name: &Text, to: u64) -> Result<Accepted, Stop>
-    ensures { Comes (accepted_of name.now)
+    ensures { Comes (λ accepted. accepted)
         (spec.rollback asmeta board.now.slots name.now to) result }
 {
     let slot = found(alloc, board, name)?;
     match content_at(slot, to) {
-        Some(content) => Ok(done(alloc, "rolled", Some(content.share()?))?),
+        Some(content) => Ok(done(alloc, "rolled", name, Some(content.share()?))?),
         None => Err(Stop::Refused(not_in_trail(alloc, name, slot)?)),
     }
 }

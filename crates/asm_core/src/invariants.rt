@@ -6,14 +6,13 @@ ghost use Rattle.asm_board.specs.Refusals as refusals;
 ghost use Rattle.asm_board.specs.Contents.{IsContent};
 ghost use Rattle.asm_board.specs.Changes as spec;
 ghost use Rattle.asm_board.specs.Coming.{Comes};
-ghost use Rattle.asm_core.specs.Preparing.{accepted_of};
 ghost use Rattle.asm_core.specs.Works.{told_with};
 ghost use Rattle.asm_core.specs.Language.{asmeta};
 
-use crate::changes::{Accepted, done};
+use crate::changes::done;
 use crate::reads::found;
 use crate::texts::condition_in;
-use asm_board::{Board, Content, Refusal, Stop};
+use asm_board::{Accepted, Board, Content, Refusal, Stop};
 use asm_invariant::first_broken;
 use asm_program::{BadText, CheckedTerm, Inv, Program};
 use asm_showing::broken;
@@ -222,7 +221,7 @@ pub(crate) fn add_invariant(
     inv: &Text,
     source: &Text,
 ) -> Result<Accepted, Stop>
-    ensures { Comes (accepted_of name.now) (spec.add_invariant asmeta
+    ensures { Comes (λ accepted. accepted) (spec.add_invariant asmeta
         board.now.slots name.now inv.now source.now) result }
 {
     let content = found(alloc, board, name)?.content.get();
@@ -235,7 +234,7 @@ pub(crate) fn add_invariant(
         return Err(Stop::Refused(refusal));
     }
     let content = added(alloc, name, content, inv, source)?;
-    Ok(done(alloc, "added", Some(content))?)
+    Ok(done(alloc, "added", name, Some(content))?)
 }
 
 /// The content without the invariant of a name.
@@ -253,7 +252,7 @@ pub(crate) fn drop_invariant(
     name: &Text,
     inv: &Text,
 ) -> Result<Accepted, Stop>
-    ensures { Comes (accepted_of name.now)
+    ensures { Comes (λ accepted. accepted)
         (spec.drop_invariant asmeta board.now.slots name.now inv.now) result }
 {
     let content = found(alloc, board, name)?.content.get();
@@ -262,5 +261,5 @@ pub(crate) fn drop_invariant(
         return Err(Stop::Refused(refusal));
     }
     let content = dropped(alloc, content, inv.as_str())?;
-    Ok(done(alloc, "dropped", Some(content))?)
+    Ok(done(alloc, "dropped", name, Some(content))?)
 }

@@ -2,8 +2,10 @@
 #![tactic(auto)]
 
 mod changes;
+mod formulas;
 mod invariants;
 mod laws;
+mod logs;
 mod one;
 mod preparation;
 mod reads;
@@ -11,5 +13,6 @@ mod steps;
 mod texts;
 
 pub use laws::{each_state_is_well_formed, world};
+pub use logs::answer_log;
 pub use one::One;
 pub use preparation::prepare;

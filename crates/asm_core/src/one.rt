@@ -1,9 +1,11 @@
 //! The server of one thread.
-ghost use Rattle.std.specs.Prelude.{◌≡◌, ◌≤◌, ◌^◌, [], length, IfOk, OnOk, OnErr};
+ghost use Rattle.std.specs.Prelude.{◌≡◌, ◌≤◌, ◌^◌, [], length, true, IfOk, OnOk, OnErr};
+ghost use Rattle.asm_board.specs.Calls.{is_log};
 ghost use Rattle.asm_board.specs.Answers as spec;
 ghost use Rattle.asm_core.specs.Language.{asmeta};
 ghost use Rattle.asm_core.specs.Servers.{grown};
 
+use crate::logs::{answer_log, asked_of};
 use crate::preparation::prepare;
 use asm_board::{Board, Call, Entry, Next, Outcome, Prepared, Reply};
 use std::alloc::{AllocError, Global};
@@ -66,6 +68,16 @@ impl One {
         self.board.front()
     }
 
+    /// The answer to a log.
+    fn log(&self, alloc: Global, call: &Call) -> Result<Reply, AllocError>
+        requires { is_log call.now ≡ true }
+        ensures { IfOk result (λ reply. reply
+            ≡ (spec.answer asmeta self.now.room self.now.journal 0 call.now).reply) }
+    {
+        let entries = asked_of(self.journal.as_slice(), call);
+        answer_log(alloc, entries, self.board.front(), call)
+    }
+
     /// Answers a call: a read at the journal as it is, and a change by its entry or its refusal. On
     /// `AllocError`, want of memory, nothing has changed.
     pub fn answer(&mut self, alloc: Global, call: &Call) -> Result<Reply, AllocError>
@@ -75,6 +87,9 @@ impl One {
             ≡ grown self.old (spec.answer asmeta self.old.room self.old.journal 0 call.now).entry) }
         ensures err { OnErr result (self.new ≡ self.old) }
     {
+        if call.is_log() {
+            return self.log(alloc, call);
+        }
         let prepared = prepare(alloc, &self.board, call)?;
         if !prepared.is_change() {
             return Ok(reply_of(prepared, self.board.front()));

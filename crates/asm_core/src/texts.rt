@@ -3,6 +3,7 @@ ghost use Rattle.std.specs.Prelude.{◌≡◌, IfOk};
 ghost use Rattle.asm_board.specs.declared.stop.Stop.TheVariants as stops;
 ghost use Rattle.asm_board.specs.Refusals as refusals;
 ghost use Rattle.asm_board.specs.Changes as spec;
+ghost use Rattle.asm_board.specs.Reads as reads;
 ghost use Rattle.asm_board.specs.Coming.{Comes};
 ghost use Rattle.asm_core.specs.Language.{asmeta};
 
@@ -39,6 +40,17 @@ pub(crate) fn condition_in(
     ensures { Comes (λ term. term) (spec.condition_in asmeta program.now text.now) result }
 {
     match term_of(alloc, program, Some(Domain::Truth), text)? {
+        Ok(term) => Ok(term),
+        Err(bad) => Err(bad_text(alloc, &bad)?),
+    }
+}
+
+/// The term of a text, of any domain, over what a program declares, or its refusal. `NoMemory` is
+/// want of memory.
+pub(crate) fn term_in(alloc: Global, program: &Program, text: &str) -> Result<CheckedTerm, Stop>
+    ensures { Comes (λ term. term) (reads.term_in asmeta program.now text.now) result }
+{
+    match term_of(alloc, program, None, text)? {
         Ok(term) => Ok(term),
         Err(bad) => Err(bad_text(alloc, &bad)?),
     }
