@@ -14,8 +14,7 @@ use Rattle.asm_board.specs.Slots.{Models, version_in, versions_in}
 use Rattle.asm_board.specs.Calls.{footprint, is_change, entry_weight}
 use Rattle.asm_board.specs.Changes.{Change}
 use Rattle.asm_board.specs.Meanings.{Meanings}
-use Rattle.asm_board.specs.Boards.{model_limit, empty_board, version_of, body_of_change, body_of_read, weight_of_change, body_weight, with_entry, change_at, slots_at, versions_at, applied, board_of}
-use Rattle.asm_board.specs.Reads.{read}
+use Rattle.asm_board.specs.Boards.{model_limit, empty_board, version_of, body_of_change, read_at, weight_of_change, body_weight, with_entry, change_at, slots_at, versions_at, applied, board_of}
 use Rattle.asm_board.specs.Refusals.{models_full, journal_full}
 use Rattle.asm_board.specs.Answers.{Answer, told, without_entry, entry_at, with_room, outcome_of, answer, Legal, Stands, Settled, first_stale, unless_stale, settle}
 use Rattle.asm_board.proofs.Legal.{grows_legally, front_is}
@@ -77,7 +76,7 @@ weighs c (Ok a) tree is = ap (entry_weight c) (ok_is a.ok tree is)
 weighs c (Err why) tree is = absurd (cc (is))
 
 weighs_at : (m : Meanings) (board : Board) (c : Call) (tree : Port) (t : Bool) → t ≡ true
-    → (if t then body_of_change (change_at m board c) else body_of_read (read m board.slots c)) ≡ bodies.Ok tree
+    → (if t then body_of_change (change_at m board c) else read_at m board c) ≡ bodies.Ok tree
     → (if t then weight_of_change c (change_at m board c) else 0) ≡ entry_weight c tree
 weighs_at m board c tree true is ok = weighs c (change_at m board c) tree ok
 weighs_at m board c tree false is ok = absurd (cc (is))

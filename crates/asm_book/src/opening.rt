@@ -82,6 +82,7 @@ impl Opening for Brand {
       program_of = λ source. Err (record { kind = []; more = []; line = 0; column = 0 });
       term_of = λ program wanted source.
           Err (record { kind = []; more = []; line = 0; column = 0 });
+      canonical = λ source. [];
       initial = λ program. Starts map.empty;
       yields = λ program state pick. Yields set.empty [];
     } };

@@ -667,10 +667,10 @@ board_sync : IsSync board.the_row
 board_sync = declared_sync board.the_type (u64_sync, (u64_sync, ((list_sync named.the_row named_sync), tt)))
 
 pub call_sync : IsSync call.the_row
-call_sync = search (values, port_sync) depth 40
+call_sync = search (values, port_sync) depth 40 fits 20000
 
 call_send : IsSend call.the_row
-call_send = search (values, port_send) depth 40
+call_send = search (values, port_send) depth 40 fits 20000
 
 refusal_send : IsSend refusal.the_row
 refusal_send = declared_send refusal.the_type (refusal_name.the_send, (port_send, tt))
