@@ -1,5 +1,5 @@
 mod Members
-mod Parts
+pub mod Parts
 pub mod Asked
 pub mod OneLine
 pub mod Objects

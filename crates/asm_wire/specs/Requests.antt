@@ -1,5 +1,5 @@
 -- What a line asks for.
-use Rattle.std.specs.Prelude.{◌≡◌, ℕ, ◌^◌, ◌-◌, Bool, true, false, not, ◌&&◌, ◌⊎◌, nat_le, List, [], ◌∷◌, codes, if◌then◌else◌, Option, Some, None, option_and_then, is_some, is_none, Ok, Err}
+use Rattle.std.specs.Prelude.{◌≡◌, ℕ, ◌^◌, ◌-◌, Bool, true, false, not, ◌&&◌, ◌||◌, ◌⊎◌, nat_le, List, [], ◌∷◌, codes, if◌then◌else◌, Option, Some, None, option_and_then, unwrap_or, is_some, is_none, Ok, Err}
 use Rattle.std.specs.Option.{option_map_or}
 use Rattle.std.specs.List.{list_any}
 use Rattle.std.specs.Str.{bytes_eq}
@@ -36,6 +36,15 @@ abbrev pub number_in : ℕ → List ℕ → Data → Tried ℕ
 number_in most key request =
     is_there (within most (option_and_then natural_of (get key request))) (bad_request key)
 
+abbrev pub from_1 : Option ℕ → Option ℕ
+from_1 None = None
+from_1 (Some n) = if nat_le 1 n then Some n else None
+
+-- a whole number from 1 to 2^64 - 1, which has to be there
+abbrev pub positive_in : List ℕ → Data → Tried ℕ
+positive_in key request =
+    is_there (from_1 (option_and_then natural_of (get key request))) (bad_request key)
+
 abbrev pub fits_if_there : (Data → Bool) → Option Data → Bool
 fits_if_there fits None = true
 fits_if_there fits (Some d) = fits d
@@ -60,6 +69,10 @@ is_pick (object ms) = false
 -- the number of a pick, None where it is null or isn't there
 abbrev pub pick_in : List ℕ → Data → Option ℕ
 pick_in key request = option_and_then natural_of (get key request)
+
+-- the number of the field `since`, 0 where it isn't there
+abbrev pub since_in : Data → ℕ
+since_in request = unwrap_or (option_and_then natural_of (get (codes "since") request)) 0
 
 -- each member is an object in which each number is a whole number of 64 bits
 abbrev pub are_objects : Members → Bool
@@ -96,10 +109,6 @@ others_in keys (Some ms) = first_other keys ms
 abbrev pub only : List (List ℕ) → Data → Tried (Unit {0})
 only keys request = no_other (others_in keys (as_object request))
 
--- the field isn't there; it isn't built
-abbrev pub without : List ℕ → Data → Tried (Unit {0})
-without key request = needs (is_none (get key request)) unbuilt
-
 -- ---- operations
 
 -- the most steps of a run
@@ -112,9 +121,9 @@ run_in request =
     after (number_in most_steps (codes "steps") request) (λ steps.
     after (optional is_pick (codes "pick") request) (λ _.
     after (optional is_natural (codes "since") request) (λ _.
-    after (only (codes "op" ∷ codes "pick" ∷ codes "since" ∷ codes "steps" ∷ codes "text" ∷ []) request) (λ _.
-    after (without (codes "since") request) (λ _.
-    Ok (call.Run text steps (pick_in (codes "pick") request))))))))
+    after (only (codes "op" ∷ codes "pick" ∷ codes "since" ∷ codes "steps" ∷ codes "text" ∷ [])
+    request) (λ _.
+    Ok (call.Run text steps (pick_in (codes "pick") request) (since_in request)))))))
 
 abbrev pub load_in : Data → Tried Call
 load_in request =
@@ -123,30 +132,53 @@ load_in request =
     after (only (codes "name" ∷ codes "op" ∷ codes "text" ∷ []) request) (λ _.
     Ok (call.Load name text))))
 
--- a formula of more than one name isn't built
 abbrev pub step_in : Data → Tried Call
 step_in request =
     after (string_in (codes "formula") request) (λ formula.
     after (optional is_inputs (codes "inputs") request) (λ _.
     after (optional is_pick (codes "pick") request) (λ _.
     after (only (codes "formula" ∷ codes "inputs" ∷ codes "op" ∷ codes "pick" ∷ []) request) (λ _.
-    after (needs (is_identifier formula) unbuilt) (λ _.
-    Ok (call.Step formula (inputs_in (codes "inputs") request) (pick_in (codes "pick") request)))))))
+    Ok (call.Step formula (inputs_in (codes "inputs") request) (pick_in (codes "pick") request))))))
 
 abbrev pub state_in : Data → Tried Call
 state_in request =
     after (string_in (codes "name") request) (λ name.
     after (optional is_natural (codes "since") request) (λ _.
     after (only (codes "name" ∷ codes "op" ∷ codes "since" ∷ []) request) (λ _.
-    after (without (codes "since") request) (λ _.
-    Ok (call.State name)))))
+    Ok (call.State name (since_in request)))))
+
+abbrev pub value_in : Data → Tried Call
+value_in request =
+    after (string_in (codes "name") request) (λ name.
+    after (string_in (codes "term") request) (λ term.
+    after (optional is_natural (codes "since") request) (λ _.
+    after (only (codes "name" ∷ codes "op" ∷ codes "since" ∷ codes "term" ∷ []) request) (λ _.
+    Ok (call.Value name term (since_in request))))))
+
+abbrev pub text_in : Data → Tried Call
+text_in request =
+    after (string_in (codes "name") request) (λ name.
+    after (optional is_natural (codes "since") request) (λ _.
+    after (only (codes "name" ∷ codes "op" ∷ codes "since" ∷ []) request) (λ _.
+    Ok (call.ShowText name (since_in request)))))
 
 abbrev pub models_in : Data → Tried Call
 models_in request =
     after (optional is_natural (codes "since") request) (λ _.
     after (only (codes "op" ∷ codes "since" ∷ []) request) (λ _.
-    after (without (codes "since") request) (λ _.
-    Ok call.Models)))
+    Ok (call.Models (since_in request))))
+
+-- the most entries of a log
+abbrev pub most_entries : ℕ
+most_entries = 16
+
+abbrev pub log_in : Data → Tried Call
+log_in request =
+    after (positive_in (codes "from") request) (λ from.
+    after (number_in most_entries (codes "count") request) (λ count.
+    after (optional is_natural (codes "since") request) (λ _.
+    after (only (codes "count" ∷ codes "from" ∷ codes "op" ∷ codes "since" ∷ []) request) (λ _.
+    Ok (call.Log from count (since_in request))))))
 
 -- an identifier, which has to be there
 abbrev pub identifier_in : List ℕ → Data → Tried (List ℕ)
@@ -181,13 +213,11 @@ rollback_in request =
     Ok (call.Rollback name to))))
 
 -- the operations that aren't built
-abbrev pub later_operations : List (List ℕ)
-later_operations =
-    codes "unload" ∷ codes "value" ∷ codes "text" ∷ codes "log" ∷ codes "swap" ∷ []
+abbrev pub is_later : List ℕ → Bool
+is_later op = bytes_eq op (codes "swap") || bytes_eq op (codes "unload")
 
 abbrev pub other_in : List ℕ → Tried Call
-other_in op =
-    Err (if list_any (bytes_eq op) later_operations then unbuilt else bad_request (codes "op"))
+other_in op = Err (if is_later op then unbuilt else bad_request (codes "op"))
 
 abbrev pub call_by : List ℕ → Data → Tried Call
 call_by op request =
@@ -195,11 +225,14 @@ call_by op request =
     else (if bytes_eq op (codes "load") then load_in request
     else (if bytes_eq op (codes "step") then step_in request
     else (if bytes_eq op (codes "state") then state_in request
+    else (if bytes_eq op (codes "value") then value_in request
+    else (if bytes_eq op (codes "text") then text_in request
     else (if bytes_eq op (codes "models") then models_in request
+    else (if bytes_eq op (codes "log") then log_in request
     else (if bytes_eq op (codes "addinv") then add_invariant_in request
     else (if bytes_eq op (codes "dropinv") then drop_invariant_in request
     else (if bytes_eq op (codes "rollback") then rollback_in request
-    else other_in op)))))))
+    else other_in op))))))))))
 
 -- the call for which a JSON tree asks, or the first reason why it asks for none
 unfoldable pub call_in : Data → Tried Call

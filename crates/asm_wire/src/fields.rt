@@ -68,6 +68,16 @@ pub(crate) fn number_in(
     }
 }
 
+/// A whole number from 1 to 2^64 - 1, which has to be there.
+pub(crate) fn positive_in(alloc: Global, key: &str, request: &Value) -> Result<u64, WireRefusal>
+    ensures { Reports (spec.positive_in key.now (view request.now)) result }
+{
+    match request.get(key).and_then(Value::as_u64) {
+        Some(number) if number >= 1 => Ok(number),
+        _ => Err(WireRefusal::BadRequest(Text::from_str(alloc, key)?)),
+    }
+}
+
 /// A whole number from 0 to 2^64 - 1 that may be there.
 pub(crate) fn optional_natural(alloc: Global, key: &str, request: &Value) -> Result<(), WireRefusal>
     ensures { Reports (spec.optional spec.is_natural key.now (view request.now)) result }
@@ -103,6 +113,16 @@ pub(crate) fn pick_in(key: &str, request: &Value) -> Option<u64>
     ensures { result ≡ spec.pick_in key.now (view request.now) }
 {
     request.get(key).and_then(Value::as_u64)
+}
+
+/// The number of the field `since`, 0 where it isn't there.
+pub(crate) fn since_in(request: &Value) -> u64
+    ensures { result ≡ spec.since_in (view request.now) }
+{
+    match request.get("since").and_then(Value::as_u64) {
+        Some(since) => since,
+        None => 0,
+    }
 }
 
 /// The inputs of a step, which may be there.
@@ -148,15 +168,5 @@ pub(crate) fn only(alloc: Global, keys: &[&str], request: &Value) -> Result<(), 
     {
         None => Ok(()),
         Some(key) => Err(WireRefusal::BadRequest(Text::from_str(alloc, key)?)),
-    }
-}
-
-/// Refuses a field that isn't built.
-pub(crate) fn without(key: &str, request: &Value) -> Result<(), WireRefusal>
-    ensures { Reports (spec.without key.now (view request.now)) result }
-{
-    match request.get(key) {
-        None => Ok(()),
-        Some(_) => Err(WireRefusal::Unbuilt),
     }
 }

@@ -9,11 +9,10 @@ ghost use Rattle.asm_board.specs.Refusals.{Tried};
 
 use crate::fields::{
     identifier_in, inputs_in, number_in, only, optional_inputs, optional_natural, optional_pick,
-    pick_in, string_in, without,
+    pick_in, positive_in, since_in, string_in,
 };
 use crate::refusal::WireRefusal;
-use crate::words::is_among;
-use asm_board::{Call, is_identifier};
+use asm_board::Call;
 use asm_value::Text;
 use serde_json::Value;
 use std::alloc::Global;
@@ -21,8 +20,8 @@ use std::alloc::Global;
 /// The most steps of a run.
 const MOST_STEPS: u64 = 64;
 
-/// The operations that aren't built.
-const LATER_OPERATIONS: [&str; 5] = ["unload", "value", "text", "log", "swap"];
+/// The most entries of a log.
+const MOST_ENTRIES: u64 = 16;
 
 fn run_in(alloc: Global, request: &Value) -> Result<Call, WireRefusal>
     ensures { Reports (spec.run_in (view request.now)) result }
@@ -32,10 +31,15 @@ fn run_in(alloc: Global, request: &Value) -> Result<Call, WireRefusal>
     optional_pick(alloc, "pick", request)?;
     optional_natural(alloc, "since", request)?;
     only(alloc, &["op", "pick", "since", "steps", "text"], request)?;
-    without("since", request)?;
     let text = Text::from_str(alloc, text)?;
     let pick = pick_in("pick", request);
-    Ok(Call::Run { text, steps, pick })
+    let since = since_in(request);
+    Ok(Call::Run {
+        text,
+        steps,
+        pick,
+        since,
+    })
 }
 
 fn load_in(alloc: Global, request: &Value) -> Result<Call, WireRefusal>
@@ -56,9 +60,6 @@ fn step_in(alloc: Global, request: &Value) -> Result<Call, WireRefusal>
     optional_inputs(alloc, "inputs", request)?;
     optional_pick(alloc, "pick", request)?;
     only(alloc, &["formula", "inputs", "op", "pick"], request)?;
-    if !is_identifier(formula) {
-        return Err(WireRefusal::Unbuilt);
-    }
     let formula = Text::from_str(alloc, formula)?;
     let inputs = inputs_in(alloc, "inputs", request)?;
     let pick = pick_in("pick", request);
@@ -75,9 +76,33 @@ fn state_in(alloc: Global, request: &Value) -> Result<Call, WireRefusal>
     let name = string_in(alloc, "name", request)?;
     optional_natural(alloc, "since", request)?;
     only(alloc, &["name", "op", "since"], request)?;
-    without("since", request)?;
     let name = Text::from_str(alloc, name)?;
-    Ok(Call::State { name })
+    let since = since_in(request);
+    Ok(Call::State { name, since })
+}
+
+fn value_in(alloc: Global, request: &Value) -> Result<Call, WireRefusal>
+    ensures { Reports (spec.value_in (view request.now)) result }
+{
+    let name = string_in(alloc, "name", request)?;
+    let term = string_in(alloc, "term", request)?;
+    optional_natural(alloc, "since", request)?;
+    only(alloc, &["name", "op", "since", "term"], request)?;
+    let name = Text::from_str(alloc, name)?;
+    let term = Text::from_str(alloc, term)?;
+    let since = since_in(request);
+    Ok(Call::Value { name, term, since })
+}
+
+fn text_in(alloc: Global, request: &Value) -> Result<Call, WireRefusal>
+    ensures { Reports (spec.text_in (view request.now)) result }
+{
+    let name = string_in(alloc, "name", request)?;
+    optional_natural(alloc, "since", request)?;
+    only(alloc, &["name", "op", "since"], request)?;
+    let name = Text::from_str(alloc, name)?;
+    let since = since_in(request);
+    Ok(Call::ShowText { name, since })
 }
 
 fn models_in(alloc: Global, request: &Value) -> Result<Call, WireRefusal>
@@ -85,8 +110,19 @@ fn models_in(alloc: Global, request: &Value) -> Result<Call, WireRefusal>
 {
     optional_natural(alloc, "since", request)?;
     only(alloc, &["op", "since"], request)?;
-    without("since", request)?;
-    Ok(Call::Models)
+    let since = since_in(request);
+    Ok(Call::Models { since })
+}
+
+fn log_in(alloc: Global, request: &Value) -> Result<Call, WireRefusal>
+    ensures { Reports (spec.log_in (view request.now)) result }
+{
+    let from = positive_in(alloc, "from", request)?;
+    let count = number_in(alloc, MOST_ENTRIES, "count", request)?;
+    optional_natural(alloc, "since", request)?;
+    only(alloc, &["count", "from", "op", "since"], request)?;
+    let since = since_in(request);
+    Ok(Call::Log { from, count, since })
 }
 
 fn add_invariant_in(alloc: Global, request: &Value) -> Result<Call, WireRefusal>
@@ -127,7 +163,7 @@ fn rollback_in(alloc: Global, request: &Value) -> Result<Call, WireRefusal>
 fn other_in(alloc: Global, op: &str) -> Result<Call, WireRefusal>
     ensures { Reports (spec.other_in op.now) result }
 {
-    if is_among(&LATER_OPERATIONS, op) {
+    if op == "swap" || op == "unload" {
         return Err(WireRefusal::Unbuilt);
     }
     Err(WireRefusal::BadRequest(Text::from_str(alloc, "op")?))
@@ -141,7 +177,10 @@ fn call_by(alloc: Global, op: &str, request: &Value) -> Result<Call, WireRefusal
         "load" => load_in(alloc, request),
         "step" => step_in(alloc, request),
         "state" => state_in(alloc, request),
+        "value" => value_in(alloc, request),
+        "text" => text_in(alloc, request),
         "models" => models_in(alloc, request),
+        "log" => log_in(alloc, request),
         "addinv" => add_invariant_in(alloc, request),
         "dropinv" => drop_invariant_in(alloc, request),
         "rollback" => rollback_in(alloc, request),
