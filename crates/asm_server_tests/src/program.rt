@@ -73,7 +73,16 @@ fn faults_end_the_run_where_they_come(rt: HostRuntime) -> Result<(), Fail> {
 
 fn other_words(alloc: Global) -> Result<bool, AllocError> {
     let mut all = true;
-    for words in [[].as_slice(), &["demo", "3"], &["stdio", "x"], &[""]] {
+    for words in [
+        [].as_slice(),
+        &["demo"],
+        &["demo", "0"],
+        &["demo", "03"],
+        &["demo", "257"],
+        &["demo", "3", "x"],
+        &["stdio", "x"],
+        &[""],
+    ] {
         let (status, held) = run(alloc, words, b"[]\n", &[], &[])?;
         all = status == 1 && held.len() == 0 && all;
     }
@@ -83,6 +92,45 @@ fn other_words(alloc: Global) -> Result<bool, AllocError> {
 #[test]
 fn other_words_read_and_write_nothing(rt: HostRuntime) -> Result<(), Fail> {
     assert!(rt; other_words(rt.alloc())?);
+    Ok(())
+}
+
+/// Sizes of demos, and their lines.
+const DEMOS: [(&str, &str); 4] = [
+    ("1", "demo 1: entries 23 refused 1 sum 10\n"),
+    ("3", "demo 3: entries 23 refused 1 sum 60\n"),
+    ("17", "demo 17: entries 23 refused 1 sum 1530\n"),
+    ("256", "demo 256: entries 23 refused 1 sum 328960\n"),
+];
+
+fn demos(alloc: Global) -> Result<bool, AllocError> {
+    let mut all = true;
+    for (size, line) in DEMOS {
+        let (status, held) = run(alloc, &["demo", size], b"[]\n", &[0], &[])?;
+        all = status == 0 && held.as_slice() == line.as_bytes() && all;
+    }
+    Ok(all)
+}
+
+#[test]
+fn demos_write_their_lines_and_read_nothing(rt: HostRuntime) -> Result<(), Fail> {
+    assert!(rt; demos(rt.alloc())?);
+    Ok(())
+}
+
+/// The line of a demo is written, and then flushed.
+fn demo_faults(alloc: Global) -> Result<bool, AllocError> {
+    let mut all = true;
+    for (call, bytes) in [(0, 0), (1, 36)] {
+        let (status, held) = run(alloc, &["demo", "3"], b"", &[], &[call])?;
+        all = status == 3 && held.len() == bytes && all;
+    }
+    Ok(all)
+}
+
+#[test]
+fn a_demo_ends_where_a_write_fails(rt: HostRuntime) -> Result<(), Fail> {
+    assert!(rt; demo_faults(rt.alloc())?);
     Ok(())
 }
 
@@ -115,10 +163,10 @@ fn load_of(alloc: Global, spaces: usize, want: &str) -> Result<bool, AllocError>
 }
 
 fn text_lengths(alloc: Global) -> Result<bool, AllocError> {
-    let short =
-        "{\"at\":0,\"no\":\"BadText\",\"why\":{\"column\":262145,\"kind\":\"Syntax\",\"line\":1,\"more\":\"\"}}\n";
-    let long =
-        "{\"at\":0,\"no\":\"BadText\",\"why\":{\"column\":1,\"kind\":\"TextTooLong\",\"line\":1,\"more\":\"262145\"}}\n";
+    let short = "{\"at\":0,\"no\":\"BadText\",\"why\":\
+        {\"column\":262145,\"kind\":\"Syntax\",\"line\":1,\"more\":\"\"}}\n";
+    let long = "{\"at\":0,\"no\":\"BadText\",\"why\":\
+        {\"column\":1,\"kind\":\"TextTooLong\",\"line\":1,\"more\":\"262145\"}}\n";
     let fits = load_of(alloc, 262_144, short)?;
     Ok(load_of(alloc, 262_145, long)? && fits)
 }

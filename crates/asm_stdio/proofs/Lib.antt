@@ -1,4 +1,5 @@
 pub mod Written
 pub mod Parts
 pub mod Going
-pub mod Words
+pub mod CommandLine
+pub mod Fixed

@@ -1,16 +1,13 @@
 -- What the program has done when it ends.
-use Rattle.std.specs.Prelude.{◌≡◌, ℕ, ◌^◌, ◌<◌, List, [], ◌∷◌, ◌++◌, length, map, codes, Option, String, string_bytes, ◌⊎◌}
-use Rattle.std.specs.declared.alloc.Global.{Global}
-use Rattle.std.specs.Io.KnownBytes.{Consumes, IsAtEnd}
+use Rattle.std.specs.Prelude.{◌≡◌, ℕ, ◌^◌, ◌<◌, List, [], ◌∷◌, ◌++◌, length, Option, ◌⊎◌}
+use Rattle.std.specs.Io.KnownBytes.{Appends, Consumes, IsAtEnd}
 use Rattle.asm_io.specs.Lines.{Line, lines, ended_lines}
 use Rattle.asm_board.specs.declared.entry.Entry.{Entry}
 use Rattle.asm_board.specs.Answers.{Legal}
 use Rattle.asm_core.specs.Language.{asmeta}
+use Rattle.asm_wire.specs.Lines.{AppendsPart}
+use Rattle.asm_demo.specs.Lines.{demo_line}
 use Rattle.asm_stdio.specs.Transcripts.{journal_room, Answers, AnswersPart}
-
--- the words of the command line are these
-abbrev pub AreStdio : List (String Global) → Type 0
-AreStdio words = map (λ word. string_bytes word) words ≡ codes "stdio" ∷ []
 
 -- how many bytes one session may take
 abbrev pub session_bytes : ℕ
@@ -59,6 +56,18 @@ pub record AnsweredPart (left rest held now : Option (List ℕ)) : Type 0 where
   pub split : lines taken ≡ before ++ line ∷ behind
   pub answers : AnswersPart [] before line held now
   pub legal : IsLegal answers.last
+
+-- The line of the demo of this size is written, or at 3 a first part of it, perhaps the whole. There
+-- is no other end but want of memory, which is 4.
+pub record Demonstrates (size status : ℕ) (held now : Option (List ℕ)) : Type 0 where
+  pub done : status ≡ 0 → Appends held now (demo_line size)
+  pub part : status ≡ 3 → AppendsPart held now (demo_line size)
+  pub statuses : (status ≡ 0) ⊎ (status ≡ 3) ⊎ (status ≡ 4)
+
+-- the statuses with which a session may end
+abbrev pub IsStdioStatus : ℕ → Type 0
+IsStdioStatus status =
+    (status ≡ 0) ⊎ (status ≡ 2) ⊎ (status ≡ 3) ⊎ (status ≡ 4) ⊎ (status ≡ 6)
 
 -- the statuses with which the program may end
 abbrev pub IsStatus : ℕ → Type 0

@@ -14,7 +14,8 @@ text_for (Ok reply) = reply_line reply
 text_for (Err e) = no_memory_line
 
 -- the line's reply after a journal, and the journal then
-pub record IsReplied (journal : List Entry) (line : Line) (reply : Reply) (next : List Entry) : Type 0 where
+pub record IsReplied (journal : List Entry) (line : Line) (reply : Reply) (next : List Entry)
+    : Type 0 where
   pub asked : Tried Call
   pub asks : LineAsks line asked
   pub is : reply ≡ (answer_to journal asked).reply

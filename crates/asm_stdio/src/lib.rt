@@ -2,9 +2,13 @@
 #![tactic(auto)]
 
 mod answer;
+mod demo;
 mod host;
+mod laws;
 mod run;
 mod serve;
+mod words;
 
 pub use host::run_on_host;
+pub use laws::a_transcript_fixes_its_bytes;
 pub use run::run_plain;

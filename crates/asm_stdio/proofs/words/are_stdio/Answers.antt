@@ -1,8 +1,8 @@
 use Rattle.std.proofs.Common.{arith, ◌∙◌, ap}
 use Rattle.std.specs.Str.{bytes_eq}
 use Rattle.std.specs.Prelude.{codes}
-use Rattle.asm_stdio.proofs.Words.{one_word}
-use Rattle.asm_stdio.proofs.run.are_stdio.Goals as goal
+use Rattle.asm_stdio.proofs.CommandLine.{one_word}
+use Rattle.asm_stdio.proofs.words.are_stdio.Goals as goal
 
 pub returns-in-len1 : goal.returns-in-len1
 returns-in-len1 c =

@@ -1,0 +1,4 @@
+pub mod Calls
+pub mod Sums
+pub mod Runs
+pub mod Lines
