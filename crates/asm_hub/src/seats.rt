@@ -1,11 +1,11 @@
 //! Two seats, one call after another.
 ghost use Rattle.std.specs.Prelude.{◌≡◌};
 ghost use Rattle.asm_core.specs.Language.{asmeta};
-ghost use Rattle.asm_hub.specs.Ready.{IsReady};
+ghost use Rattle.asm_seats.specs.Ready.{IsReady};
 
-use crate::calls::{End, change, change_held, end_of, load, ready, says, settle, step};
-use asm_board::Prepared;
-use asm_book::{Book, Opening, RealMaker, Still, Token, Unopened, meet, open_book};
+use asm_board::{Prepared, Reply};
+use asm_book::{Book, CommitRefusal, Opening, RealMaker, Still, Token, Unopened, meet, open_book};
+use asm_seats::{End, change, change_held, end_of, load, ready, settle, step};
 use std::alloc::{AllocError, Global};
 use std::marker::Brand;
 use std::sync::Wait;
@@ -153,6 +153,14 @@ fn two_seats<L: Opening, R: Wait>(
 fn a_commit_shows_to_the_other_seat(rt: HostRuntime) -> Result<(), Fail> {
     assert!(rt; two_seats::<Brand, _>(&rt, rt.alloc(), Unopened::new(2))?);
     Ok(())
+}
+
+/// Whether a commit was answered by this text after `{"at":N,`, with this number.
+pub fn says(ended: &Result<Reply, CommitRefusal>, at: u64, tail: &str) -> bool {
+    match ended {
+        Ok(reply) => reply.at == at && reply.tail.as_str() == tail,
+        Err(_) => false,
+    }
 }
 
 /// Whether a step after a load has no room, and is told so.

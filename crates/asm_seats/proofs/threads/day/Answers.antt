@@ -3,7 +3,7 @@ use Rattle.std.proofs.lemmas.Grind.{common_steps}
 use Rattle.asm_book.specs.Tokens.{Known}
 use Rattle.asm_book.specs.Gathered.{SeatedFrom, fresh_from}
 use Rattle.asm_book.proofs.Gathers.{seats_kept, fresh_seated, length-fresh}
-use Rattle.asm_hub.proofs.threads.day.Goals as goal
+use Rattle.asm_seats.proofs.threads.day.Goals as goal
 
 whole : (xs ys : List Known) (n : ℕ) → n ≡ length xs → take n (xs ++ ys) ≡ xs
 whole xs ys n is = grind (arith, common_steps)

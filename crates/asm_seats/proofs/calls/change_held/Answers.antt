@@ -5,7 +5,7 @@ use Rattle.asm_board.specs.declared.prepared.Prepared.{Prepared}
 use Rattle.asm_board.specs.declared.board.Board.{Board}
 use Rattle.asm_board.specs.Boards.{board_of}
 use Rattle.asm_board.specs.Answers.{Stands}
-use Rattle.asm_hub.proofs.calls.change_held.Goals as goal
+use Rattle.asm_seats.proofs.calls.change_held.Goals as goal
 
 pub commit-requires-clause-stands : goal.commit-requires-clause-stands
 commit-requires-clause-stands g c =

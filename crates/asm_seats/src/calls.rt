@@ -3,7 +3,7 @@ ghost use Rattle.std.specs.Prelude.{◌≡◌, true, IfOk, IfSome};
 ghost use mathlib.Core.List.{IsPrefix};
 ghost use Rattle.asm_board.specs.Calls.{is_change};
 ghost use Rattle.asm_core.specs.Language.{asmeta};
-ghost use Rattle.asm_hub.specs.Ready.{IsReady};
+ghost use Rattle.asm_seats.specs.Ready.{IsReady};
 
 use asm_board::{Body, Call, Prepared, Reply};
 use asm_book::{Book, CommitRefusal, Gate, Opening, Token};
@@ -30,7 +30,8 @@ pub enum End {
     Nothing,
 }
 
-/// The load of the model under a name.
+/// The load of a model of two locations under a name, which weighs 12 where the name is short. Fails
+/// where memory runs out.
 pub fn load(alloc: Global, name: &str) -> Result<Call, AllocError>
     ensures { IfOk result (λ call. is_change call ≡ true) }
 {
@@ -40,7 +41,8 @@ pub fn load(alloc: Global, name: &str) -> Result<Call, AllocError>
     })
 }
 
-/// A step of the model of a name.
+/// A step of the model of a name, which weighs 11 where the name is short. Fails where memory runs
+/// out.
 pub fn step(alloc: Global, name: &str) -> Result<Call, AllocError>
     ensures { IfOk result (λ call. is_change call ≡ true) }
 {
@@ -51,7 +53,7 @@ pub fn step(alloc: Global, name: &str) -> Result<Call, AllocError>
     })
 }
 
-/// How a commit ended.
+/// How a commit ended. Takes no memory.
 pub fn end_of(ended: &Result<Reply, CommitRefusal>) -> End {
     match ended {
         Ok(reply) => match &reply.body {
@@ -74,15 +76,8 @@ pub fn end_of(ended: &Result<Reply, CommitRefusal>) -> End {
     }
 }
 
-/// Whether a commit was answered by this text after `{"at":N,`, with this number.
-pub fn says(ended: &Result<Reply, CommitRefusal>, at: u64, tail: &str) -> bool {
-    match ended {
-        Ok(reply) => reply.at == at && reply.tail.as_str() == tail,
-        Err(_) => false,
-    }
-}
-
-/// Peeks, and prepares a change at the board that was given.
+/// Peeks, and prepares a change at the board that was given. None where the gate refuses the
+/// entrance, and where memory runs out.
 pub fn ready<L: Opening, G: Gate>(
     alloc: Global,
     token: &mut Token<L>,
@@ -98,7 +93,8 @@ pub fn ready<L: Opening, G: Gate>(
     prepare(alloc, &board, call).ok()
 }
 
-/// Commits what was prepared at the history that the token has seen.
+/// Commits what was prepared at the history that the token has seen. It waits for the book's lock.
+/// The refusals are those of `Token::commit`.
 pub fn settle<L: Opening, R: Wait + Drop, W: Wait>(
     rt: &W,
     alloc: Global,
@@ -112,7 +108,7 @@ pub fn settle<L: Opening, R: Wait + Drop, W: Wait>(
     token.commit(rt, alloc, book, prepared)
 }
 
-/// Peeks, prepares a change and commits it.
+/// Peeks, prepares a change and commits it, for which it waits for the book's lock.
 pub fn change<L: Opening, R: Wait + Drop, W: Wait, G: Gate>(
     rt: &W,
     alloc: Global,
@@ -131,7 +127,7 @@ pub fn change<L: Opening, R: Wait + Drop, W: Wait, G: Gate>(
     }
 }
 
-/// Takes the lock, and prepares and commits a change at the held board.
+/// Takes the lock, for which it waits, and prepares and commits a change at the held board.
 pub fn change_held<L: Opening, R: Wait + Drop, W: Wait>(
     rt: &W,
     alloc: Global,

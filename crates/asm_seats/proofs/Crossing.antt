@@ -1,5 +1,5 @@
 -- A token may be sent to another thread, and a book may be shared among threads: what they hold may.
-use mathlib.Core.List.{List, [], ◌∷◌}
+use mathlib.Core.List.{[], ◌∷◌}
 use mir.Syntax.{Sym, Ty}
 use denote.RattleType.{RattleType}
 use denote.Exit.{yes}
@@ -30,7 +30,6 @@ use Rattle.asm_value.proofs.domain.Live.TheSendSync as live_crosses
 use Rattle.asm_state.specs.contracts.state.State as state
 use Rattle.asm_state.specs.contracts.state.State.TheInside as inside
 use Rattle.asm_portable.specs.contracts.port.Port as port
-use Rattle.asm_portable.specs.contracts.port.Field as field
 use Rattle.asm_portable.proofs.port.Port.TheLaws.TheKnot as port_knot
 use Rattle.std.specs.contracts.option.Option as option
 use Rattle.asm_tables.specs.contracts.rows.Operation as operation
@@ -61,9 +60,7 @@ use Rattle.asm_board.proofs.refusal.RefusalName.TheSendSync as refusal_name
 use Rattle.asm_board.specs.contracts.reply.Body as body
 use Rattle.asm_board.specs.contracts.entry.Entry as entry
 use Rattle.std.specs.declared.sync.ledger.Ledger as ledger
-use Rattle.std.specs.contracts.sync.ledger.Share as share
 use Rattle.logbook.proofs.tokens.Seen.TheSendSync as seen_crosses
-use Rattle.logbook.proofs.word.Word.TheSendSync as word_crosses
 use Rattle.left_right.proofs.reader.Reader.TheSendSync as reader_crosses
 use Rattle.left_right.proofs.writer.Writer.TheSendSync as writer_crosses
 use Rattle.asm_book.specs.declared.opening.Opening as opening
